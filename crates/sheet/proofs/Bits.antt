@@ -26,7 +26,7 @@ pow-bit-other : (s k : ℕ) → k ≢ s → 2 ^ s / 2 ^ k % 2 ≡ 0
 pow-bit-other s k ne =
     ⊎-elim (λ e. absurd (ne e))
     (⊎-elim (λ h. let e : s ≡ (1 + (s - k - 1)) + k = omega arith in ap (λ x. 2 ^ x / 2 ^ k % 2) e ∙ even-pow (s - k - 1) k)
-     (λ h. rw (div-eq-of-lt (pow-lt {i = s} {j = k} h))))
+    (λ h. rw (div-eq-of-lt (pow-lt {i = s} {j = k} h))))
     (cases-order k s)
 
 two : (n : ℕ) → n < 2 → (n ≡ 0) ⊎ (n ≡ 1)
@@ -36,9 +36,10 @@ two (suc (suc n)) h = absurd (omega arith)
 
 or-low : (p q : ℕ) → p < 2 → q < 2 → eqb (bitOr p q) 1 ≡ (eqb q 1 || eqb p 1)
 or-low p q hp hq =
-    elim (two p hp)
-      [ inl e ↦ rw e (elim (two q hq) [ inl f ↦ rw f | inr f ↦ rw f ])
-      | inr e ↦ rw e (elim (two q hq) [ inl f ↦ rw f | inr f ↦ rw f ]) ]
+    elim (two p hp) [
+      | inl e ↦ rw e (elim (two q hq) [ inl f ↦ rw f | inr f ↦ rw f ])
+      | inr e ↦ rw e (elim (two q hq) [ inl f ↦ rw f | inr f ↦ rw f ])
+    ]
 
 bit-mod : (m i : ℕ) → bit m i ≡ eqb ((m / 2 ^ i) % 2) 1
 bit-mod m i = ap (λ (n : ℕ). eqb n 1) (and-mask (m / 2 ^ i) 1)
@@ -55,9 +56,10 @@ bit-or a b i =
 bit-pow : (s k : ℕ) → bit (2 ^ s) k ≡ eqb k s
 bit-pow s k =
     bit-mod (2 ^ s) k
-    ∙ elim (cases-eq k s)
-        [ inl e ↦ rw e (ap (λ (n : ℕ). eqb n 1) (pow-bit-same s) ∙ sym (eq-eqb s s refl))
-        | inr ne ↦ ap (λ (n : ℕ). eqb n 1) (pow-bit-other s k ne) ∙ sym (ne-eqb k s ne) ]
+    ∙ elim (cases-eq k s) [
+      | inl e ↦ rw e (ap (λ (n : ℕ). eqb n 1) (pow-bit-same s) ∙ sym (eq-eqb s s refl))
+      | inr ne ↦ ap (λ (n : ℕ). eqb n 1) (pow-bit-other s k ne) ∙ sym (ne-eqb k s ne)
+    ]
 
 -- one bit more
 pub bit-more : (m s k : ℕ) → s < 64 → bit (bitOr m ((1 * 2 ^ s) % 2 ^ 64)) k ≡ (eqb k s || bit m k)

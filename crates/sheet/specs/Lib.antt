@@ -1,3 +1,6 @@
 pub mod Faults
+pub mod Fit
+pub mod Limits
 pub mod Model
 pub mod Sets
+pub mod View

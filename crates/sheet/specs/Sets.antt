@@ -4,8 +4,9 @@
 --   rising p      the numbers below 64 that pass the test p, in rising order
 --   members s     the numbers in the set, in rising order
 --   emptySet      the set with none
-use mathlib.Core.Bool.{Bool, _&&_}
-use mathlib.Core.List.{List}
+--   mem k l       k stands in the list
+use mathlib.Core.Bool.{Bool, false, _&&_, _||_}
+use mathlib.Core.List.{List, [], _∷_}
 use Prim.Native.Nat.{ℕ, _/_, _^_}
 use lib.Bits.{bitAnd}
 use lib.Dec.{eqb, ltb}
@@ -27,3 +28,7 @@ members s = rising (has s)
 
 abbrev pub emptySet : IndexSet
 emptySet = record { mask = 0 }
+
+abbrev pub mem : ℕ → List ℕ → Bool
+mem k [] = false
+mem k (x ∷ l) = eqb k x || mem k l

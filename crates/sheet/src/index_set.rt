@@ -34,7 +34,9 @@ impl IndexSet {
         ensures has { λ r. ⌜ ((k : ℕ) → k < 64 → has r k ≡ (eqb k index || has self k)) ⌝ }
     {
         if index < 64 {
-            IndexSet { mask: self.mask | 1 << index }
+            IndexSet {
+                mask: self.mask | 1 << index,
+            }
         } else {
             self
         }

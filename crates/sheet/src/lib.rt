@@ -3,4 +3,5 @@ pub mod fault;
 pub mod index_set;
 pub mod numbering;
 pub mod parts;
+pub mod sheet;
 pub mod verdict;
