@@ -1,0 +1,6 @@
+pub mod Item
+pub mod Law
+pub mod Lawful
+pub mod Reading
+pub mod Said
+pub mod Shape

@@ -1,0 +1,2 @@
+// Reading a sheet file.
+pub mod record;
