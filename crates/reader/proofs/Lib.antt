@@ -1,1 +1,5 @@
-
+pub mod Kept
+pub mod Ledgers
+pub mod Limited
+pub mod Room
+pub mod Walking

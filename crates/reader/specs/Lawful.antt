@@ -23,22 +23,19 @@ use Rattle.reader.specs.Item.{Item, header, start, effect, need, pair, link, n
 use Rattle.reader.specs.Said.{Said, said}
 use Rattle.reader.specs.Shape.{between}
 
--- the header is read, and so is the start word of every signal
-abbrev pub headed : Said → Bool
-headed s = ltb 0 (s .steps)
-
-abbrev pub started : Said → Bool
-started s = leb (s .signals) (length (s .starts))
+-- a mark may stand after this many steps and signals are announced, and this many start words are read
+abbrev pub standsAfter : ℕ → ℕ → ℕ → Mark → Bool
+standsAfter steps signals starts mark.Header = not (ltb 0 steps)
+standsAfter steps signals starts mark.Start = ltb 0 steps && ltb starts signals
+standsAfter steps signals starts mark.Effect = ltb 0 steps && not (ltb starts signals)
+standsAfter steps signals starts mark.Need = ltb 0 steps && not (ltb starts signals)
+standsAfter steps signals starts mark.Pair = ltb 0 steps && not (ltb starts signals)
+standsAfter steps signals starts mark.Link = ltb 0 steps && not (ltb starts signals)
+standsAfter steps signals starts mark.Name = ltb 0 steps && not (ltb starts signals)
+standsAfter steps signals starts mark.End = ltb 0 steps && not (ltb starts signals)
 
 abbrev pub stands : Said → Mark → Bool
-stands s mark.Header = not (headed s)
-stands s mark.Start = headed s && not (started s)
-stands s mark.Effect = headed s && started s
-stands s mark.Need = headed s && started s
-stands s mark.Pair = headed s && started s
-stands s mark.Link = headed s && started s
-stands s mark.Name = headed s && started s
-stands s mark.End = headed s && started s
+stands s m = standsAfter (s .steps) (s .signals) (length (s .starts)) m
 
 abbrev pub unless : Bool → Cause → Option Cause → Option Cause
 unless ok c rest = cond ok rest (Some c)

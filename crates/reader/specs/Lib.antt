@@ -4,3 +4,5 @@ pub mod Lawful
 pub mod Reading
 pub mod Said
 pub mod Shape
+pub mod Shows
+pub mod View

@@ -6,6 +6,7 @@
 --   part f p k        the k bytes from a place on
 --   markOf a b        the mark with these two letters
 --   markAt f p        the mark at a place
+--   partAt f p most   the place and the bytes of the part whose length stands three bytes on from the mark at p
 --   bodyAt f p m      the record at a place that begins with the mark m, and the place after it
 --   recordAt f p      the record at a place, and the place after it
 use mathlib.Core.Bool.{Bool, cond, _&&_}
@@ -67,6 +68,12 @@ known p None = Err (fault cause.Mark p)
 abbrev pub markAt : List ℕ → ℕ → Result Mark ReaderFault
 markAt file p = whole file p (p + 2) (known p (markOf (byteAt file p) (byteAt file (p + 1))))
 
+abbrev pub partAt : List ℕ → ℕ → ℕ → Result (ℕ × List ℕ) ReaderFault
+partAt file p most =
+    whole file p (p + 4)
+    (within (between 1 (byteAt file (p + 3)) most) p
+    (whole file p (p + 4 + byteAt file (p + 3)) (Ok (p + 4, part file (p + 4) (byteAt file (p + 3))))))
+
 abbrev pub bodyAt : List ℕ → ℕ → Mark → Result (Item × ℕ) ReaderFault
 bodyAt file p mark.Header =
     whole file p (p + 4)
@@ -78,16 +85,8 @@ bodyAt file p mark.Effect =
 bodyAt file p mark.Need =
     whole file p (p + 8) (Ok (need (byteAt file (p + 2)) (byteAt file (p + 3)) (wordAt file (p + 4)) (wordAt file (p + 6)), p + 8))
 bodyAt file p mark.Pair = whole file p (p + 4) (Ok (pair (byteAt file (p + 2)) (byteAt file (p + 3)), p + 4))
-bodyAt file p mark.Link =
-    whole file p (p + 4)
-    (within (between 1 (byteAt file (p + 3)) 64) p
-    (whole file p (p + 4 + byteAt file (p + 3))
-    (Ok (link (byteAt file (p + 2)) (part file (p + 4) (byteAt file (p + 3))), p + 4 + byteAt file (p + 3)))))
-bodyAt file p mark.Name =
-    whole file p (p + 4)
-    (within (between 1 (byteAt file (p + 3)) 24) p
-    (whole file p (p + 4 + byteAt file (p + 3))
-    (Ok (name (byteAt file (p + 2)) (part file (p + 4) (byteAt file (p + 3))), p + 4 + byteAt file (p + 3)))))
+bodyAt file p mark.Link = onOk (partAt file p 64) (λ x. Ok (link (byteAt file (p + 2)) (x .1), x .0 + length (x .1)))
+bodyAt file p mark.Name = onOk (partAt file p 24) (λ x. Ok (name (byteAt file (p + 2)) (x .1), x .0 + length (x .1)))
 bodyAt file p mark.End = Ok (end, p + 2)
 
 abbrev pub recordAt : List ℕ → ℕ → Result (Item × ℕ) ReaderFault

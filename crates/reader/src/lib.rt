@@ -1,2 +1,4 @@
 // Reading a sheet file.
+mod ledger;
 pub mod record;
+pub mod shape;

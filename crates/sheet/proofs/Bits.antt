@@ -11,9 +11,9 @@ use lib.Bits.{bitAnd, bitOr, and-mask, or-mod, or-shr}
 use lib.Dec.{eqb, ltb}
 use Rattle.std.specs.Iters.{counting}
 use Rattle.std.specs.shelf.Lists.{kept-by}
-use Rattle.std.proofs.shelf.Tests.{cases-order, cases-eq, eq-eqb, ne-eqb, lt-ltb}
+use Rattle.std.proofs.shelf.Tests.{cases-order, cases-eq, eq-eqb, ne-eqb, and-right}
 use Rattle.std.proofs.shelf.Bits.{one-shl}
-use Rattle.sheet.specs.Sets.{bit, rising}
+use Rattle.sheet.specs.Sets.{bit, has, emptySet, rising}
 
 -- a power of two has one bit
 pow-bit-same : (s : ℕ) → 2 ^ s / 2 ^ s % 2 ≡ 1
@@ -76,3 +76,7 @@ kept-same p q a (suc n) same =
 pub rising-same : (p q : ℕ → Bool) → ((k : ℕ) → k < 64 → p k ≡ q k) → rising p ≡ rising q
 unfolding rising
 rising-same p q same = kept-same p q 0 64 (λ k h. same k (omega arith))
+
+-- nothing is in the empty set
+pub empty-has : (k : ℕ) → has emptySet k ≡ false
+empty-has k = and-right (ltb k 64) (bit 0 k) (ap (λ (n : ℕ). eqb (bitAnd n 1) 1) (div-eq-of-lt (pow-pos k)))
