@@ -1,31 +1,29 @@
 -- What the records of a file keep together, one by one.
 use mathlib.Core.Path.{_≡_, refl, sym, ap, _∙_, subst}
-use mathlib.Core.Bool.{Bool, true, false, cond, not, _&&_, _||_}
+use mathlib.Core.Bool.{Bool, true, false, not, _&&_}
 use mathlib.Core.List.{List, [], _∷_, _++_}
-use mathlib.Core.Logic.{_⊎_, inl, inr}
+use mathlib.Core.Logic.{inl, inr}
 use Prim.Native.Nat.{ℕ, zero, suc, _+_, _<_, _≤_}
 use native.Mathlib.Omega.{arith}
 use lib.Dec.{eqb, leb, ltb}
-use lib.ListN.{length, getD, set}
+use lib.ListN.{length, getD}
 use Rattle.std.specs.Iters.{counting}
 use Rattle.std.specs.shelf.Lists.{All, kept-by}
 use Rattle.std.specs.declared.option.Option.{Option}
-use Rattle.std.specs.declared.option.Option.the-variants.{Some, None}
+use Rattle.std.specs.declared.option.Option.the-variants.{None}
 use Rattle.std.proofs.shelf.Elements.{all-push, all-set, all-getD, kept-by-passes}
 use Rattle.std.proofs.shelf.Lists.{length-push, length-set, getD-push, getD-append-left}
 use Rattle.std.proofs.shelf.Tests.{cases-eq, eq-eqb, eqb-true, leb-true, ltb-true, lt-ltb, and-parts, and-from, or-cases, or-parts, not-true, both-ways, false≢true}
 use Rattle.sheet.specs.declared.fault.Cause.{Cause}
-use Rattle.sheet.specs.declared.fault.Cause.the-variants as cause
 use Rattle.sheet.specs.declared.parts.Effect.{Effect}
 use Rattle.sheet.specs.declared.parts.Pair.{Pair}
 use Rattle.sheet.specs.Fit.{EffectFits, SameTarget, NeedFits, PairFits, noEffect}
 use Rattle.sheet.specs.Limits.{noNeed}
 use Rattle.sheet.specs.Model.{Need}
 use Rattle.sheet.specs.Sets.{mem, rising}
-use Rattle.reader.specs.declared.record.Mark.{Mark}
 use Rattle.reader.specs.declared.record.Mark.the-variants as mark
-use Rattle.reader.specs.Item.{Item, header, start, effect, need, pair, link, name, end, kind, isEnd}
-use Rattle.reader.specs.Lawful.{unless, sets, allBelow, stands, objection, wellFormed, Admissible}
+use Rattle.reader.specs.Item.{Item, header, start, effect, need, pair, link, name, end}
+use Rattle.reader.specs.Lawful.{unless, sets, allBelow, stands, wellFormed, Admissible}
 use Rattle.reader.specs.Said.{Said, said, saidBy, nothing, linkedBy, open-need}
 use Rattle.reader.specs.Shape.{between}
 use Rattle.reader.proofs.Walking.{Admitted}
@@ -87,14 +85,15 @@ none-sets : (es : List Effect) (w x k : ℕ) → sets es w x ≡ false → k < l
 none-sets [] w x k e h same = omega arith
 none-sets (f ∷ es) w x zero e h same =
     both-ways _ (or-parts (eqb (f .step) w && eqb (f .signal) x) (sets es w x) e .0)
-      (and-from (eqb (f .step) w) (eqb (f .signal) x) (eq-eqb _ _ (same .0)) (eq-eqb _ _ (same .1)))
+    (and-from (eqb (f .step) w) (eqb (f .signal) x) (eq-eqb _ _ (same .0)) (eq-eqb _ _ (same .1)))
 none-sets (f ∷ es) w x (suc k) e h same = none-sets es w x k (or-parts (eqb (f .step) w && eqb (f .signal) x) (sets es w x) e .1) (omega arith) same
 
 -- effects equal to those of one target have one target
 same-moved : {e f g h : Effect} → e ≡ g → f ≡ h → SameTarget e f → SameTarget g h
-same-moved p q same =
-    (ap (λ (x : Effect). x .step) (sym p) ∙ same .0 ∙ ap (λ (x : Effect). x .step) q,
-     ap (λ (x : Effect). x .signal) (sym p) ∙ same .1 ∙ ap (λ (x : Effect). x .signal) q)
+same-moved p q same = (
+  ap (λ (x : Effect). x .step) (sym p) ∙ same .0 ∙ ap (λ (x : Effect). x .step) q,
+  ap (λ (x : Effect). x .signal) (sym p) ∙ same .1 ∙ ap (λ (x : Effect). x .signal) q,
+)
 
 -- one effect more, of a step and a signal that had none
 single-push : (es : List Effect) (f : Effect) → sets es (f .step) (f .signal) ≡ false → Single es → Single (es ++ f ∷ [])
@@ -140,10 +139,16 @@ module _ (s : Said) (k : Kept s) where
   kept-start : (w : ℕ) → Admissible s (start w) → Kept (said s (start w))
   kept-start w a =
       record {
-        step-count = k .step-count; signal-count = k .signal-count;
+        step-count = k .step-count;
+        signal-count = k .signal-count;
         start-count = omega (arith, start-to-come s (a .placed), length-push (s .starts) w);
-        part-counts = k .part-counts; effects-kept = k .effects-kept; effects-single = k .effects-single; needs-kept = k .needs-kept;
-        pairs-kept = k .pairs-kept; linked-apart = k .linked-apart; named-apart = k .named-apart
+        part-counts = k .part-counts;
+        effects-kept = k .effects-kept;
+        effects-single = k .effects-single;
+        needs-kept = k .needs-kept;
+        pairs-kept = k .pairs-kept;
+        linked-apart = k .linked-apart;
+        named-apart = k .named-apart;
       }
 
   -- an effect more
@@ -156,11 +161,16 @@ module _ (s : Said) (k : Kept s) where
       let signal = both-below (e .step) (s .steps) (e .signal) (s .signals) (there .0) .1 in
       let inner = both-below 0 (e .step) (suc (e .step)) (s .steps) (step .0) in
       record {
-        step-count = k .step-count; signal-count = k .signal-count; start-count = k .start-count;
+        step-count = k .step-count;
+        signal-count = k .signal-count;
+        start-count = k .start-count;
         part-counts = (omega (arith, length-push (s .effects) e, ltb-true _ _ (few .0)), k .part-counts .1, k .part-counts .2);
         effects-kept = all-push (EffectFits (s .steps) (s .signals)) (s .effects) e (k .effects-kept) (inner .0, inner .1, signal);
         effects-single = single-push (s .effects) e (not-true _ (fresh .0)) (k .effects-single);
-        needs-kept = k .needs-kept; pairs-kept = k .pairs-kept; linked-apart = k .linked-apart; named-apart = k .named-apart
+        needs-kept = k .needs-kept;
+        pairs-kept = k .pairs-kept;
+        linked-apart = k .linked-apart;
+        named-apart = k .named-apart;
       }
 
   -- a need more
@@ -172,15 +182,18 @@ module _ (s : Said) (k : Kept s) where
       let inside = both-below w (s .steps) x (s .signals) (there .0) in
       let long = length-push (s .needs) (open-need w x l h) in
       record {
-        step-count = k .step-count; signal-count = k .signal-count; start-count = k .start-count;
+        step-count = k .step-count;
+        signal-count = k .signal-count;
+        start-count = k .start-count;
         part-counts = (k .part-counts .0, omega (arith, ltb-true _ _ (few .0)), k .part-counts .2);
-        effects-kept = k .effects-kept; effects-single = k .effects-single;
+        effects-kept = k .effects-kept;
+        effects-single = k .effects-single;
         needs-kept =
             all-push (NeedKept (s .steps) (s .signals)) (s .needs) (open-need w x l h) (k .needs-kept)
             ((ltb-true _ _ (step .0), inside .0, inside .1), λ j m. absurd (false≢true m));
         pairs-kept = k .pairs-kept;
         linked-apart = apart-wider (length (s .needs)) _ (s .linked) (omega arith) (k .linked-apart);
-        named-apart = k .named-apart
+        named-apart = k .named-apart;
       }
 
   -- a pair more
@@ -190,11 +203,16 @@ module _ (s : Said) (k : Kept s) where
       let few = passes (ltb (length (s .pairs)) 512) _ _ (there .1) in
       let new : Pair = record { earlier = e; later = l } in
       record {
-        step-count = k .step-count; signal-count = k .signal-count; start-count = k .start-count;
+        step-count = k .step-count;
+        signal-count = k .signal-count;
+        start-count = k .start-count;
         part-counts = (k .part-counts .0, k .part-counts .1, omega (arith, length-push (s .pairs) new, ltb-true _ _ (few .0)));
-        effects-kept = k .effects-kept; effects-single = k .effects-single; needs-kept = k .needs-kept;
+        effects-kept = k .effects-kept;
+        effects-single = k .effects-single;
+        needs-kept = k .needs-kept;
         pairs-kept = all-push (PairFits (s .steps)) (s .pairs) new (k .pairs-kept) (both-below e (s .steps) l (s .steps) (there .0));
-        linked-apart = k .linked-apart; named-apart = k .named-apart
+        linked-apart = k .linked-apart;
+        named-apart = k .named-apart;
       }
 
   -- a link more
@@ -207,15 +225,18 @@ module _ (s : Said) (k : Kept s) where
       let old : Need = getD (s .needs) n noNeed in
       let long = length-set (s .needs) n (linkedBy cs old) in
       record {
-        step-count = k .step-count; signal-count = k .signal-count; start-count = k .start-count;
+        step-count = k .step-count;
+        signal-count = k .signal-count;
+        start-count = k .start-count;
         part-counts = (k .part-counts .0, omega (arith, k .part-counts), k .part-counts .2);
-        effects-kept = k .effects-kept; effects-single = k .effects-single;
+        effects-kept = k .effects-kept;
+        effects-single = k .effects-single;
         needs-kept =
             all-set (NeedKept (s .steps) (s .signals)) (s .needs) n (linkedBy cs old)
             (all-getD (NeedKept (s .steps) (s .signals)) (s .needs) n noNeed below (k .needs-kept) .0, rising-fits (s .steps) cs (inside .1)) (k .needs-kept);
         pairs-kept = k .pairs-kept;
         linked-apart = (omega arith, not-true _ (fresh .0), apart-wider (length (s .needs)) _ (s .linked) (omega arith) (k .linked-apart));
-        named-apart = k .named-apart
+        named-apart = k .named-apart;
       }
 
   -- a name more
@@ -224,9 +245,16 @@ module _ (s : Said) (k : Kept s) where
       let there = passes (ltb w (s .steps)) _ _ (a .allowed) in
       let fresh = passes (not (mem w (s .named))) _ _ (there .1) in
       record {
-        step-count = k .step-count; signal-count = k .signal-count; start-count = k .start-count; part-counts = k .part-counts;
-        effects-kept = k .effects-kept; effects-single = k .effects-single; needs-kept = k .needs-kept; pairs-kept = k .pairs-kept;
-        linked-apart = k .linked-apart; named-apart = (ltb-true _ _ (there .0), not-true _ (fresh .0), k .named-apart)
+        step-count = k .step-count;
+        signal-count = k .signal-count;
+        start-count = k .start-count;
+        part-counts = k .part-counts;
+        effects-kept = k .effects-kept;
+        effects-single = k .effects-single;
+        needs-kept = k .needs-kept;
+        pairs-kept = k .pairs-kept;
+        linked-apart = k .linked-apart;
+        named-apart = (ltb-true _ _ (there .0), not-true _ (fresh .0), k .named-apart);
       }
 
   -- one record more keeps the limits
@@ -256,9 +284,16 @@ kept-header : (n v : ℕ) → wellFormed (header n v) ≡ true → Kept (said no
 kept-header n v e =
     let r = and-parts (between 2 n 64) (between 1 v 64) e in
     record {
-      step-count = in-between 2 n 64 (r .0); signal-count = in-between 1 v 64 (r .1); start-count = omega arith;
-      part-counts = (omega arith, omega arith, omega arith); effects-kept = tt; effects-single = λ j k b h same. omega arith; needs-kept = tt;
-      pairs-kept = tt; linked-apart = tt; named-apart = tt
+      step-count = in-between 2 n 64 (r .0);
+      signal-count = in-between 1 v 64 (r .1);
+      start-count = omega arith;
+      part-counts = (omega arith, omega arith, omega arith);
+      effects-kept = tt;
+      effects-single = λ j k b h same. omega arith;
+      needs-kept = tt;
+      pairs-kept = tt;
+      linked-apart = tt;
+      named-apart = tt;
     }
 
 -- what admitted records say keeps every limit

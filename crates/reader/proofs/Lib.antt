@@ -1,5 +1,9 @@
+pub mod Advancing
 pub mod Kept
+pub mod Laws
 pub mod Ledgers
 pub mod Limited
+pub mod Nexts
 pub mod Room
 pub mod Walking
+pub mod Writing

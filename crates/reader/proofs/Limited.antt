@@ -1,12 +1,11 @@
 -- The sheet that a whole file says keeps every limit.
-use mathlib.Core.Path.{_≡_, refl, sym, subst}
-use mathlib.Core.Bool.{true, not, _&&_}
+use mathlib.Core.Path.{_≡_}
+use mathlib.Core.Bool.{true, not}
 use mathlib.Core.List.{List, [], _∷_}
 use Prim.Native.Nat.{ℕ, _<_, _≤_}
 use native.Mathlib.Omega.{arith}
 use lib.Dec.{ltb}
 use lib.ListN.{length, getD}
-use Rattle.std.specs.shelf.Lists.{All}
 use Rattle.std.proofs.shelf.Elements.{all-getD}
 use Rattle.std.proofs.shelf.Tests.{and-parts, ltb-false, not-true, false≢true}
 use Rattle.sheet.specs.Fit.{EffectFits, PairFits, noEffect, noPair}
@@ -34,7 +33,7 @@ limits-kept s k same =
       effects-single = k .effects-single;
       needs-fit = λ j h. let r = fit j h .0 in (r .0, r .1, omega arith);
       links-fit = λ j c h m. fit j h .1 c m;
-      pairs-fit = λ j h. all-getD (PairFits (s .steps)) (s .pairs) j noPair h (k .pairs-kept)
+      pairs-fit = λ j h. all-getD (PairFits (s .steps)) (s .pairs) j noPair h (k .pairs-kept);
     }
 
 -- the sheet that admitted records say, where the end may stand, keeps every limit

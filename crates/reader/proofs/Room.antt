@@ -2,7 +2,7 @@
 use mathlib.Core.Path.{_≡_, refl, sym, subst}
 use mathlib.Core.Bool.{Bool, true, false, cond}
 use mathlib.Core.List.{List, [], _∷_}
-use Prim.Native.Nat.{ℕ, zero, suc, _+_, _*_, _<_, _≤_}
+use Prim.Native.Nat.{ℕ, zero, suc, _+_, _*_, _≤_}
 use native.Mathlib.Omega.{arith}
 use lib.Dec.{eqb}
 use lib.ListN.{length, getD}
@@ -12,7 +12,7 @@ use Rattle.sheet.specs.declared.parts.Pair.{Pair}
 use Rattle.sheet.specs.Limits.{noNeed}
 use Rattle.sheet.specs.Sets.{mem}
 use Rattle.reader.specs.Item.{Item, header, start, effect, need, pair, link, name, end, bytes, size, isEnd}
-use Rattle.reader.specs.Lawful.{wellFormed, Admissible}
+use Rattle.reader.specs.Lawful.{Admissible}
 use Rattle.reader.specs.Said.{Said, said, saidBy, nothing, linkedBy, open-need}
 use Rattle.reader.proofs.Kept.{Apart, Kept, kept, first-header, no-header, in-between}
 use Rattle.reader.proofs.Walking.{Admitted}
@@ -85,7 +85,7 @@ budget-more s end n k a o h = absurd (true≢false o)
 
 -- admitted records take no more than their room
 budgeted : (x : Item) (past : List Item) → Admitted (x ∷ past) → size (x ∷ past) ≤ budget (saidBy (x ∷ past))
-budgeted x [] a = 
+budgeted x [] a =
     let first = first-header x (a .0) in
     subst (λ (y : Item). size (y ∷ []) ≤ budget (said nothing y)) (sym (first .2)) (omega arith)
 budgeted x (y ∷ past) a = budget-more (saidBy (y ∷ past)) x _ (kept y past (a .2)) (a .0) (a .1) (budgeted y past (a .2))

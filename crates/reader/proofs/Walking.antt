@@ -1,18 +1,18 @@
 -- What the walk through a file keeps, record by record.
 use mathlib.Core.Path.{_≡_, refl, sym, ap, _∙_, subst}
-use mathlib.Core.Bool.{Bool, true, false, cond, _&&_}
-use mathlib.Core.List.{List, [], _∷_, _++_}
-use mathlib.Core.Logic.{_⊎_, inl, inr}
-use Prim.Native.Nat.{ℕ, zero, suc, _+_, _-_, _<_, _≤_}
+use mathlib.Core.Bool.{Bool, true, false, cond}
+use mathlib.Core.List.{List, [], _∷_}
+use mathlib.Core.Logic.{inl, inr}
+use Prim.Native.Nat.{ℕ, zero, suc, _+_, _≤_}
 use native.Mathlib.Omega.{arith}
 use lib.Dec.{eqb, leb}
-use lib.ListN.{length, getD, take, drop}
+use lib.ListN.{length, drop}
 use Rattle.std.specs.declared.option.Option.{Option}
 use Rattle.std.specs.declared.option.Option.the-variants.{Some, None}
 use Rattle.std.specs.declared.result.Result.{Result}
 use Rattle.std.specs.declared.result.Result.the-variants.{Ok, Err}
 use Rattle.std.proofs.shelf.Lists.{length-take-le, length-drop}
-use Rattle.std.proofs.shelf.Tests.{cases-eq, eq-eqb, ne-eqb, eqb-true, leb-true, and-parts, false≢true}
+use Rattle.std.proofs.shelf.Tests.{cases-eq, eq-eqb, ne-eqb, eqb-true, leb-true, false≢true}
 use Rattle.sheet.specs.declared.fault.Cause.{Cause}
 use Rattle.sheet.specs.declared.fault.Cause.the-variants as cause
 use Rattle.sheet.specs.declared.fault.ReaderFault.{ReaderFault}
@@ -22,7 +22,7 @@ use Rattle.reader.specs.Item.{Item, header, start, effect, need, pair, link, n
 use Rattle.reader.specs.Lawful.{stands, objection, wellFormed, Admissible}
 use Rattle.reader.specs.Reading.{refusedBy, admitted, placed, next, Progress, going, ended, faulty, onward, advance, walk, wholeWalk}
 use Rattle.reader.specs.Said.{Said, saidBy}
-use Rattle.reader.specs.Shape.{fault, onOk, whole, within, between, byteAt, wordAt, part, markOf, known, markAt, partAt, bodyAt}
+use Rattle.reader.specs.Shape.{fault, onOk, whole, within, between, byteAt, part, markOf, known, markAt, partAt, bodyAt}
 
 -- what is Ok keeps P, and what is a fault keeps Q
 abbrev pub Answers : {A : Type 0} → (A → Type 0) → (ReaderFault → Type 0) → Result A ReaderFault → Type 0
@@ -33,9 +33,21 @@ Answers P Q (Err f) = Q f
 abbrev pub FaultAt : ℕ → ReaderFault → Type 0
 FaultAt p f = f .place ≡ p
 
+-- what follows from P
+pub also-answers : {A : Type 0} (P R : A → Type 0) (Q : ReaderFault → Type 0) (r : Result A ReaderFault) → ((x : A) → P x → R x) → Answers P Q r
+    → Answers R Q r
+also-answers P R Q (Ok x) h a = h x a
+also-answers P R Q (Err f) h a = a
+
+-- two facts of what is Ok
+pub both-answers : {A : Type 0} (P R : A → Type 0) (Q : ReaderFault → Type 0) (r : Result A ReaderFault) → Answers P Q r → Answers R Q r
+    → Answers (λ (x : A). P x × R x) Q r
+both-answers P R Q (Ok x) a b = (a, b)
+both-answers P R Q (Err f) a b = a
+
 module _ {A : Type 0} (P : A → Type 0) (p : ℕ) where
   -- a record that is whole is inside the file
-  whole-answers : (file : List ℕ) (q : ℕ) (r : Result A ReaderFault) → (q ≤ length file → Answers P (FaultAt p) r) → Answers P (FaultAt p) (whole file p q r)
+  pub whole-answers : (file : List ℕ) (q : ℕ) (r : Result A ReaderFault) → (q ≤ length file → Answers P (FaultAt p) r) → Answers P (FaultAt p) (whole file p q r)
   whole-answers file q r h = go (leb q (length file)) refl
     where
       go : (b : Bool) → leb q (length file) ≡ b → Answers P (FaultAt p) (cond b r (Err (fault cause.CutShort p)))
@@ -43,18 +55,18 @@ module _ {A : Type 0} (P : A → Type 0) (p : ℕ) where
       go false e = refl
 
   -- a record within its limits keeps them
-  within-answers : (ok : Bool) (r : Result A ReaderFault) → (ok ≡ true → Answers P (FaultAt p) r) → Answers P (FaultAt p) (within ok p r)
+  pub within-answers : (ok : Bool) (r : Result A ReaderFault) → (ok ≡ true → Answers P (FaultAt p) r) → Answers P (FaultAt p) (within ok p r)
   within-answers true r h = h refl
   within-answers false r h = refl
 
   -- what comes after an Ok
-  then-answers : {B : Type 0} (R : B → Type 0) (r : Result B ReaderFault) (f : B → Result A ReaderFault) → Answers R (FaultAt p) r
+  pub then-answers : {B : Type 0} (R : B → Type 0) (r : Result B ReaderFault) (f : B → Result A ReaderFault) → Answers R (FaultAt p) r
       → ((y : B) → R y → Answers P (FaultAt p) (f y)) → Answers P (FaultAt p) (onOk r f)
   then-answers R (Ok y) f a h = h y a
   then-answers R (Err e) f a h = a
 
 -- a part of the file that is there is as long as it says
-length-part : (file : List ℕ) (p k : ℕ) → p + k ≤ length file → length (part file p k) ≡ k
+pub length-part : (file : List ℕ) (p k : ℕ) → p + k ≤ length file → length (part file p k) ≡ k
 length-part file p k h = length-take-le k (drop p file) (omega (arith, length-drop p file))
 
 -- the record that is read keeps its own limits, has the mark and takes the bytes up to q
@@ -65,12 +77,13 @@ pub record Body (file : List ℕ) (p : ℕ) (m : Mark) (x : Item) (q : ℕ) : Ty
   pub inside : q ≤ length file
 
 module _ (file : List ℕ) (p : ℕ) (room : p + 2 ≤ length file) where
-  abbrev Read : Mark → Item × ℕ → Type 0
+  -- what is read of a record with the mark m
+  abbrev pub Read : Mark → Item × ℕ → Type 0
   Read m y = Body file p m (y .0) (y .1)
 
-  -- a record of a fixed size
-  plain : (m : Mark) (x : Item) (q : ℕ) → wellFormed x ≡ true → kind x ≡ m → q ≡ p + length (bytes x) → q ≤ length file → Read m (x, q)
-  plain m x q f k a i = record { formed = f; marked = k; after = a; inside = i }
+  -- a body by its facts
+  body : (m : Mark) (x : Item) (q : ℕ) → wellFormed x ≡ true → kind x ≡ m → q ≡ p + length (bytes x) → q ≤ length file → Read m (x, q)
+  body m x q f k a i = record { formed = f; marked = k; after = a; inside = i }
 
   -- a part of the file with its length in a byte
   abbrev Counted : ℕ → ℕ × List ℕ → Type 0
@@ -85,50 +98,68 @@ module _ (file : List ℕ) (p : ℕ) (room : p + 2 ≤ length file) where
       (λ i. let long = length-part file (p + 4) (byteAt file (p + 3)) i in (ap (λ (k : ℕ). between 1 k most) long ∙ e, refl, omega arith))))
 
   -- what the reading of a record's body answers
-  body-answers : (m : Mark) → Answers (Read m) (FaultAt p) (bodyAt file p m)
+  pub body-answers : (m : Mark) → Answers (Read m) (FaultAt p) (bodyAt file p m)
   body-answers mark.Header =
-      whole-answers (Read mark.Header) p file _ _ (λ h. within-answers (Read mark.Header) p _ (Ok (header (byteAt file (p + 2)) (byteAt file (p + 3)), p + 4)) (λ e. plain mark.Header _ (p + 4) e refl refl h))
-  body-answers mark.Start = whole-answers (Read mark.Start) p file _ _ (λ h. plain _ _ _ refl refl refl h)
-  body-answers mark.Effect = whole-answers (Read mark.Effect) p file _ _ (λ h. plain _ _ _ refl refl refl h)
-  body-answers mark.Need = whole-answers (Read mark.Need) p file _ _ (λ h. plain _ _ _ refl refl refl h)
-  body-answers mark.Pair = whole-answers (Read mark.Pair) p file _ _ (λ h. plain _ _ _ refl refl refl h)
+      whole-answers (Read mark.Header) p file _ _ (λ h. within-answers (Read mark.Header) p _ (Ok (header (byteAt file (p + 2)) (byteAt file (p + 3)), p + 4)) (λ e. body mark.Header _ (p + 4) e refl refl h))
+  body-answers mark.Start = whole-answers (Read mark.Start) p file _ _ (λ h. body _ _ _ refl refl refl h)
+  body-answers mark.Effect = whole-answers (Read mark.Effect) p file _ _ (λ h. body _ _ _ refl refl refl h)
+  body-answers mark.Need = whole-answers (Read mark.Need) p file _ _ (λ h. body _ _ _ refl refl refl h)
+  body-answers mark.Pair = whole-answers (Read mark.Pair) p file _ _ (λ h. body _ _ _ refl refl refl h)
   body-answers mark.Link =
-      then-answers (Read mark.Link) p (Counted 64) (partAt file p 64) _ (part-answers 64) (λ y h. plain _ _ _ (h .0) refl (omega arith) (h .2))
+      then-answers (Read mark.Link) p (Counted 64) (partAt file p 64) _ (part-answers 64) (λ y h. body _ _ _ (h .0) refl (omega arith) (h .2))
   body-answers mark.Name =
-      then-answers (Read mark.Name) p (Counted 24) (partAt file p 24) _ (part-answers 24) (λ y h. plain _ _ _ (h .0) refl (omega arith) (h .2))
-  body-answers mark.End = plain _ _ _ refl refl refl room
+      then-answers (Read mark.Name) p (Counted 24) (partAt file p 24) _ (part-answers 24) (λ y h. body _ _ _ (h .0) refl (omega arith) (h .2))
+  body-answers mark.End = body _ _ _ refl refl refl room
 
 -- the record x may come next, and takes the bytes from p to q
 abbrev pub Taken : List ℕ → Said → ℕ → Item × ℕ → Type 0
 Taken file s p y = Admissible s (y .0) × (y .1 ≡ p + length (bytes (y .0))) × (y .1 ≤ length file)
 
 -- a mark is known by its letters
-abbrev Marked : List ℕ → ℕ → Mark → Type 0
+abbrev pub Marked : List ℕ → ℕ → Mark → Type 0
 Marked file p m = (p + 2 ≤ length file) × (markOf (byteAt file p) (byteAt file (p + 1)) ≡ Some m)
 
 -- what the reading of a mark answers
-mark-answers : (file : List ℕ) (p : ℕ) → Answers (Marked file p) (FaultAt p) (markAt file p)
+pub mark-answers : (file : List ℕ) (p : ℕ) → Answers (Marked file p) (FaultAt p) (markAt file p)
 mark-answers file p = whole-answers (Marked file p) p file _ _ (λ h. go h (markOf (byteAt file p) (byteAt file (p + 1))) refl)
   where
     go : p + 2 ≤ length file → (o : Option Mark) → markOf (byteAt file p) (byteAt file (p + 1)) ≡ o → Answers (Marked file p) (FaultAt p) (known p o)
     go h (Some m) e = (h, e)
     go h None e = refl
 
+-- what the reading of the next record answers, by what the reading of its body answers
+pub next-through : (file : List ℕ) (s : Said) (p : ℕ) (P : Item × ℕ → Type 0)
+    → ((m : Mark) → Marked file p m → stands s m ≡ true → Answers (λ (y : Item × ℕ). objection s (y .0) ≡ None → P y) (FaultAt p) (bodyAt file p m))
+    → Answers P (FaultAt p) (next file s p)
+unfolding next
+next-through file s p P h =
+    then-answers P p (Marked file p) (markAt file p) (placed file s p) (mark-answers file p) (λ m marked. at-mark m marked (stands s m) refl)
+  where
+    refused : (y : Item × ℕ) (o : Option Cause) → objection s (y .0) ≡ o → (objection s (y .0) ≡ None → P y) → Answers P (FaultAt p) (refusedBy p y o)
+    refused y None e g = g e
+    refused y (Some c) e g = refl
+
+    at-mark : (m : Mark) → Marked file p m → (b : Bool) → stands s m ≡ b
+        → Answers P (FaultAt p) (cond b (admitted s p (bodyAt file p m)) (Err (fault cause.Mark p)))
+    at-mark m marked false e = refl
+    at-mark m marked true e =
+        then-answers P p (λ (y : Item × ℕ). objection s (y .0) ≡ None → P y) (bodyAt file p m) _ (h m marked e)
+        (λ y g. refused y (objection s (y .0)) refl g)
+
+-- a mark that is read is inside the file
+pub mark-inside : (file : List ℕ) (p : ℕ) (m : Mark) → markAt file p ≡ Ok m → p + 2 ≤ length file
+mark-inside file p m e = subst (Answers (Marked file p) (FaultAt p)) e (mark-answers file p) .0
+
+-- the record that is read at a mark
+pub body-is : (file : List ℕ) (p : ℕ) (m : Mark) (x : Item) (q : ℕ) → p + 2 ≤ length file → bodyAt file p m ≡ Ok (x, q) → Body file p m x q
+body-is file p m x q room e = subst (Answers (Read file p room m) (FaultAt p)) e (body-answers file p room m)
+
 -- what the reading of the next record answers
 pub next-answers : (file : List ℕ) (s : Said) (p : ℕ) → Answers (Taken file s p) (FaultAt p) (next file s p)
-unfolding next
-next-answers file s p = then-answers (Taken file s p) p (Marked file p) (markAt file p) (placed file s p) (mark-answers file p) (λ m h. at-mark m (h .0) (stands s m) refl)
-  where
-    refused : (y : Item × ℕ) (o : Option Cause) → objection s (y .0) ≡ o → (objection s (y .0) ≡ None → Taken file s p y) → Answers (Taken file s p) (FaultAt p) (refusedBy p y o)
-    refused y None e h = h e
-    refused y (Some c) e h = refl
-    at-mark : (m : Mark) → p + 2 ≤ length file → (b : Bool) → stands s m ≡ b
-        → Answers (Taken file s p) (FaultAt p) (cond b (admitted s p (bodyAt file p m)) (Err (fault cause.Mark p)))
-    at-mark m room false e = refl
-    at-mark m room true e =
-        then-answers (Taken file s p) p (Read file p room m) (bodyAt file p m) _ (body-answers file p room m)
-        (λ y b. refused y (objection s (y .0)) refl
-            (λ a. (record { formed = b .formed; placed = ap (stands s) (b .marked) ∙ e; allowed = a }, b .after, b .inside)))
+next-answers file s p =
+    next-through file s p (Taken file s p)
+    (λ m h e. also-answers (Read file p (h .0) m) (λ (y : Item × ℕ). objection s (y .0) ≡ None → Taken file s p y) (FaultAt p) (bodyAt file p m)
+    (λ y b a. (record { formed = b .formed; placed = ap (stands s) (b .marked) ∙ e; allowed = a }, b .after, b .inside)) (body-answers file p (h .0) m))
 
 -- the record that is read may come next, and takes the bytes from p to q
 pub next-admits : (file : List ℕ) (s : Said) (p : ℕ) (x : Item) (q : ℕ) → next file s p ≡ Ok (x, q)
@@ -204,20 +235,21 @@ module _ (file : List ℕ) (n : ℕ) where
           record {
             admitted = g .admitted;
             ends = subst (Admissible (saidBy past)) is (a .0);
-            sized = omega (arith, a .1, ap (λ (x : Item). length (bytes x)) is, eqb-true _ _ e, g .sized)
+            sized = omega (arith, a .1, ap (λ (x : Item). length (bytes x)) is, eqb-true _ _ e, g .sized);
           }
       after-end is false e =
           record { past = past; admitted = g .admitted; near = omega (arith, a .1, ap (λ (x : Item). length (bytes x)) is, g .sized) }
+
       at-end : (b : Bool) → isEnd (y .0) ≡ b
           → Walked file (suc n)
-              (cond b (cond (eqb (y .1) (length file)) (ended past) (faulty (fault cause.AfterEnd (y .1)))) (going (y .0 ∷ past) (y .1)))
+          (cond b (cond (eqb (y .1) (length file)) (ended past) (faulty (fault cause.AfterEnd (y .1)))) (going (y .0 ∷ past) (y .1)))
       at-end true e = after-end (end-is (y .0) e) _ refl
       at-end false e =
           record {
             admitted = (a .0, e, g .admitted);
             sized = omega (arith, a .1, g .sized);
             least = omega (arith, a .1, g .least, two-letters (y .0));
-            inside = a .2
+            inside = a .2;
           }
 
   -- it keeps it over one step

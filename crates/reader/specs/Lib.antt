@@ -1,3 +1,5 @@
+pub mod Advance
+pub mod Draft
 pub mod Item
 pub mod Law
 pub mod Lawful

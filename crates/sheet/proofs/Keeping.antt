@@ -20,7 +20,10 @@ use Rattle.sheet.specs.declared.parts.Pair.{Pair}
 use Rattle.sheet.specs.Fit.{NeedFits, linkHas, noNeed as noHeldNeed}
 use Rattle.sheet.specs.Limits.{Limits, noNeed}
 use Rattle.sheet.specs.Model.{Need, needOf, linkOf, modelOf}
-use Rattle.sheet.specs.Sets.{has, mem, rising}
+use Rattle.sheet.specs.Sets.{bit, has, mem, members, rising}
+use Rattle.sheet.specs.declared.index_set.IndexSet.{IndexSet}
+use Rattle.std.specs.Options.{Cases}
+use Rattle.sheet.proofs.Bits.{rising-same, empty-has}
 
 mem-kept : (p : ℕ → Bool) (j a n : ℕ) → a ≤ j → j < a + n → p j ≡ true → mem j (kept-by p (counting a n)) ≡ true
 mem-kept p j a zero h k e = absurd (omega arith)
@@ -53,6 +56,16 @@ pub contributor : (l : Option Link) (j : ℕ) → mem j (linkOf l) ≡ true → 
 unfolding rising
 contributor None j e = absurd (false≢true e)
 contributor (Some l) j e = kept-passes (has (l .contributors)) j 0 64 e
+
+no-rising : rising (λ _. false) ≡ []
+unfolding rising
+no-rising = refl
+
+-- the link with the contributors of a set has that set's members
+pub link-members : (o : Option Link) (s : IndexSet) → Cases o (s .mask ≡ 0) (λ l. l .contributors ≡ s) → linkOf o ≡ members s
+link-members None s e =
+    sym (rising-same (has s) (λ _. false) (λ k h. ap (λ (m : ℕ). ltb k 64 && bit m k) e ∙ empty-has k) ∙ no-rising)
+link-members (Some l) s e = ap members e
 
 module _ (n : ℕ) (starts : List ℕ) (effects : List Effect) (needs : List HeldNeed) (pairs : List Pair) where
   at : (k : ℕ) → k < length needs → getD (map needOf needs) k noNeed ≡ needOf (getD needs k noHeldNeed)
