@@ -22,6 +22,6 @@ Reached file l p = (past : List Item) × (n : ℕ) × (walk file n ≡ going pas
 
 abbrev pub Advanced : List ℕ → List Item → ℕ → ℕ → Ledger → Result (Option (Record × ℕ)) ReaderFault → Type 0
 Advanced file past n p l (Err f) = wholeWalk file ≡ faulty f
-Advanced file past n p l (Ok None) = wholeWalk file ≡ ended past
+Advanced file past n p l (Ok None) = (wholeWalk file ≡ ended past) × Shows l (saidBy past)
 Advanced file past n p l (Ok (Some x)) =
     (walk file (suc n) ≡ going (itemOf (x .0) ∷ past) (x .1)) × Shows l (saidBy (itemOf (x .0) ∷ past)) × PlacedAt p (x .0)

@@ -4,6 +4,7 @@ pub mod Item
 pub mod Law
 pub mod Lawful
 pub mod Reading
+pub mod Results
 pub mod Said
 pub mod Shape
 pub mod Shows

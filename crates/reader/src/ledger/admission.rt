@@ -31,6 +31,12 @@ impl Ledger {
         Ledger { steps: 0, signals: 0, starts: 0, effects: 0, needs: 0, pairs: 0, set_by: [none; 64], linked: [false; 256], named: none }
     }
 
+    pub(crate) fn steps(&self) -> u8
+        ensures { λ r. ⌜ r ≡ now (self .entry) .steps ⌝ }
+    {
+        self.steps
+    }
+
     // Whether a record with this mark may come next.
     fn may_stand(&self, mark: Mark) -> bool
         ensures { λ r. ⌜ r ≡ standsAfter (now (self .entry) .steps) (now (self .entry) .signals) (now (self .entry) .starts) mark ⌝ }

@@ -1,7 +1,9 @@
-use mathlib.Core.Path.{_≡_, sym, ap}
+use mathlib.Core.Path.{sym, subst}
 use native.Mathlib.Omega.{arith}
 use Rattle.std.proofs.shelf.Results.{err-from-errBy}
-use Rattle.reader.specs.Said.{saidBy}
+use Rattle.reader.specs.declared.record.Record.{Record}
+use Rattle.reader.specs.Said.{said, saidBy}
+use Rattle.reader.specs.Shows.{Shows}
 use Rattle.reader.specs.View.{itemOf}
 use Rattle.reader.proofs.Advancing.{is-end, is-more, end-near, more-near, end-inside}
 use Rattle.reader.proofs.Walking.{walk-more, whole-fault, whole-end, whole-after-end}
@@ -28,8 +30,10 @@ pub returns-in-End : need.returns-in-End
 returns-in-End c past n w shows =
     let read = sym (c .in-Continue-record .ensures tt .value (saidBy past) shows) in
     let inside = end-inside (c .args .file .now) n past (c .args .at) (itemOf (c .in-Continue-record .record)) (c .in-Continue-record .end) w read in
-    whole-end (c .args .file .now) n past (c .args .at) (itemOf (c .in-Continue-record .record)) (c .in-Continue-record .end)
-    w read (is-end _ (c .in-End .is)) (omega arith)
+    (whole-end (c .args .file .now) n past (c .args .at) (itemOf (c .in-Continue-record .record)) (c .in-Continue-record .end)
+        w read (is-end _ (c .in-End .is)) (omega arith),
+     subst (λ (r : Record). Shows (c .read-record .last .self) (said (saidBy past) (itemOf r))) (c .in-End .is)
+        (c .in-Continue-record .ensures tt .after (saidBy past) shows))
 
 pub cast-result-2 : need.cast-result-2
 cast-result-2 c =
