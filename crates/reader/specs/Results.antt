@@ -13,8 +13,8 @@ use Rattle.std.specs.declared.result.Result.the-variants.{Ok, Err}
 use Rattle.sheet.specs.declared.fault.Fault.{Fault}
 use Rattle.sheet.specs.declared.sheet.Sheet.{Sheet}
 use Rattle.sheet.specs.View.{model}
-use Rattle.reader.specs.declared.read.ReadError.{ReadError}
-use Rattle.reader.specs.declared.read.ReadError.the-variants as error
+use Rattle.reader.specs.declared.reading.ReadError.{ReadError}
+use Rattle.reader.specs.declared.reading.ReadError.the-variants as error
 use Rattle.reader.specs.declared.record.Part.{Part}
 use Rattle.reader.specs.Draft.{takesMemory}
 use Rattle.reader.specs.Item.{Item}

@@ -5,6 +5,7 @@ ghost use lib.ListN.{length};
 use sheet::index_set::IndexSet;
 
 mod admission;
+mod advance;
 
 // Sets and counts, and no list: the name of a step is found with this alone.
 #[derive(Clone, Copy)]

@@ -11,7 +11,7 @@ use Rattle.reader.specs.Said.{saidBy}
 use Rattle.reader.specs.View.{itemOf}
 use Rattle.reader.proofs.Advancing.{reading-by, walk-begins, further, limits-at-end, answer-at}
 use Rattle.reader.proofs.Laws.{reads-exactly, places-fit}
-use Rattle.reader.proofs.read.whole.read.Needs as need
+use Rattle.reader.proofs.reading.read.Needs as need
 
 pub records-holds : need.records-holds
 records-holds c = ([], 0, walk-begins (c .args .file .now), c .new-ledger .ensures, c .new-draft .ensures)

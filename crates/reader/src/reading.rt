@@ -1,13 +1,37 @@
-// The whole file, record by record.
+// Reading a sheet file into a sheet.
+ghost use mathlib.Core.Path.{_≡_};
+ghost use Rattle.reader.specs.declared.reading.ReadError.the-variants.{Fault, Memory};
 ghost use Rattle.reader.specs.Law.{Reads-exactly, Places-fit};
 ghost use Rattle.reader.specs.Results.{ReadAs};
 use crate::draft::Draft;
 use crate::ledger::Ledger;
-use crate::read::ReadError;
-use crate::read::ReadErrorFromAlloc;
-use crate::read::ReadErrorFromFault;
+use sheet::fault::ReaderFault;
 use sheet::sheet::Sheet;
+use std::alloc::AllocError;
 use std::alloc::Global;
+
+// Why a file is not read: its fault, or want of memory.
+#[derive(Clone, Copy)]
+pub enum ReadError {
+    Fault(ReaderFault),
+    Memory,
+}
+
+pub impl From<ReaderFault> for ReadError as ReadErrorFromFault {
+    ghost converts = { λ e r. r ≡ Fault e };
+
+    fn from(e: ReaderFault) -> ReadError {
+        ReadError::Fault(e)
+    }
+}
+
+pub impl From<AllocError> for ReadError as ReadErrorFromAlloc {
+    ghost converts = { λ _ r. r ≡ Memory };
+
+    fn from(_e: AllocError) -> ReadError {
+        ReadError::Memory
+    }
+}
 
 // The sheet that the file says, or its one fault. Want of memory comes only for a file whose records have no fault
 // up to the one that found no room.

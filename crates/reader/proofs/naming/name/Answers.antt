@@ -15,7 +15,7 @@ use Rattle.reader.specs.Said.{saidBy}
 use Rattle.reader.specs.View.{itemOf, PlacedAt}
 use Rattle.reader.proofs.Advancing.{naming-by, walk-begins, further, answer-at}
 use Rattle.reader.proofs.Walking.{walk-going}
-use Rattle.reader.proofs.name.name.Needs as need
+use Rattle.reader.proofs.naming.name.Needs as need
 
 pub records-holds : need.records-holds
 records-holds c = ([], 0, walk-begins (c .args .file .now), c .new-ledger .ensures, refl)

@@ -7,7 +7,7 @@ use Rattle.reader.specs.Item.{Item}
 use Rattle.reader.specs.Reading.{walk, going}
 use Rattle.reader.specs.Said.{saidBy, sheetOf}
 use Rattle.reader.specs.Shows.{Shows}
-use Rattle.reader.proofs.read.whole.read.Given as given
+use Rattle.reader.proofs.reading.read.Given as given
 
 abbrev pub Inv-records : given.InvT-records
 Inv-records l =

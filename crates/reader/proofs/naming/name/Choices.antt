@@ -7,7 +7,7 @@ use Rattle.reader.specs.Reading.{walk, going, nameIn}
 use Rattle.reader.specs.Results.{partOf}
 use Rattle.reader.specs.Said.{saidBy}
 use Rattle.reader.specs.Shows.{Shows}
-use Rattle.reader.proofs.name.name.Given as given
+use Rattle.reader.proofs.naming.name.Given as given
 
 abbrev pub Inv-records : given.InvT-records
 Inv-records l =
