@@ -12,3 +12,6 @@ pub use reading::ReadErrorFromAlloc;
 pub use reading::ReadErrorFromFault;
 pub use reading::read;
 pub use shape::next_record;
+
+#[cfg(test)]
+mod tests;

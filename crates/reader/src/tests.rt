@@ -1,0 +1,3 @@
+// What the reader answers on examples.
+mod contents;
+mod faults;
