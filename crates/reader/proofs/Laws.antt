@@ -8,21 +8,27 @@ use lib.Dec.{eqb}
 use lib.ListN.{length, drop}
 use Rattle.std.specs.Joined.{joined}
 use Rattle.std.specs.Orderings.{When}
+use Rattle.std.specs.declared.option.Option.{Option}
 use Rattle.std.specs.declared.result.Result.{Result}
 use Rattle.std.specs.declared.result.Result.the-variants.{Ok, Err}
 use Rattle.std.proofs.shelf.Lists.{drop-all, length-drop}
-use Rattle.std.proofs.shelf.Tests.{eqb-true}
+use Rattle.std.proofs.shelf.Tests.{eqb-true, lt-ltb, le-ltb, cond-true, cond-false}
 use Rattle.sheet.specs.declared.fault.Cause.the-variants as cause
+use Rattle.sheet.specs.declared.fault.Fault.the-variants.{Reader, Run}
 use Rattle.sheet.specs.declared.fault.ReaderFault.{ReaderFault}
+use Rattle.sheet.specs.declared.fault.RunFault.the-variants.{NoSuchStep}
 use Rattle.sheet.specs.Model.{Sheet}
 use Rattle.reader.specs.Item.{Item, end, bytes, isEnd}
-use Rattle.reader.specs.Law.{Bytes, saidIn, Written, Reads-exactly, Places-fit}
-use Rattle.reader.specs.Lawful.{Lawful}
-use Rattle.reader.specs.Reading.{Progress, going, ended, faulty, next, onward, advance, walk, wholeWalk, sheetAfter, reading}
-use Rattle.reader.specs.Said.{said, saidBy, nothing, sheetOf}
+use Rattle.reader.specs.Law.{Bytes, saidIn, nameOf, Written, Reads-exactly, Places-fit, Faults-first, Names-exactly}
+use Rattle.reader.specs.Reading.{Progress, going, ended, faulty, next, onward, advance, walk, wholeWalk, sheetAfter, reading, nameIn, nameAfter, naming}
+use Rattle.reader.specs.Rules.{Lawful}
+use Rattle.reader.specs.Said.{Said, said, saidBy, nothing, sheetOf}
 use Rattle.reader.specs.Shape.{fault}
+use Rattle.reader.proofs.Accepting.{Accepted, accepted, lawful}
+use Rattle.reader.proofs.Advancing.{reading-by, naming-by, walk-begins}
+use Rattle.reader.proofs.Named.{or-none, names-same, steps-said}
 use Rattle.reader.proofs.Room.{place-fits}
-use Rattle.reader.proofs.Walking.{Answers, FaultAt, Admitted, Walked, walked, end-is, walk-more, whole-end}
+use Rattle.reader.proofs.Walking.{Answers, FaultAt, Admitted, Walked, Ended, walked, end-is, walk-more, whole-end}
 use Rattle.reader.proofs.Writing.{Stands, next-spelled, next-reads, room, after-record}
 
 -- nothing is both read and a fault
@@ -57,10 +63,10 @@ said-same : (past rest : List Item) → saidIn nothing (reverseAux past rest) �
 said-same [] rest = refl
 said-same (x ∷ past) rest = said-same past (x ∷ rest)
 
--- admitted records, the oldest first, and lawful ones after them are lawful
-lawful-back : (past rest : List Item) → Admitted past → Lawful (saidBy past) rest → Lawful nothing (reverseAux past rest)
-lawful-back [] rest a l = l
-lawful-back (x ∷ past) rest a l = lawful-back past (x ∷ rest) (a .2) (a .0, rw (a .1) l)
+-- admitted records, the oldest first, and accepted ones after them are accepted
+accepted-back : (past rest : List Item) → Admitted past → Accepted (saidBy past) rest → Accepted nothing (reverseAux past rest)
+accepted-back [] rest a l = l
+accepted-back (x ∷ past) rest a l = accepted-back past (x ∷ rest) (a .2) (a .0, rw (a .1) l)
 
 -- the records of the walk stand in the file one after the other
 abbrev Spelt : List ℕ → Progress → Type 0
@@ -110,42 +116,89 @@ written-from file (ended past) h g s e =
     let same : sheetOf (saidBy past) ≡ s = cc in
     record {
       records = reverseAux past (end ∷ []);
-      lawful = lawful-back past (end ∷ []) (h .admitted) (h .ends, refl);
+      lawful = lawful _ (accepted-back past (end ∷ []) (h .admitted) (h .ends, refl));
       same = g;
       says = ap sheetOf (said-same past (end ∷ [])) ∙ same;
     }
 
--- the walk starts at the file's first byte
-walk-starts : (file : List ℕ) → walk file 0 ≡ going [] 0
-unfolding walk
-walk-starts file = refl
+-- the walk through the file ends after these records, of which the end record is the last
+record EndsAfter (file : List ℕ) (records : List Item) : Type 0 where
+  past : List Item
+  ends : wholeWalk file ≡ ended past
+  whole : records ≡ reverseAux past (end ∷ [])
 
--- lawful records whose bytes stand in the rest of the file are read to the end
-reads-on : (file : List ℕ) (rest : List Item) (n : ℕ) (past : List Item) (p : ℕ) → walk file n ≡ going past p → Lawful (saidBy past) rest
-    → drop p file ≡ joined bytes rest → sheetAfter (wholeWalk file) ≡ Ok (sheetOf (saidIn (saidBy past) rest))
+-- accepted records whose bytes stand in the rest of the file are read to the end
+reads-on : (file : List ℕ) (rest : List Item) (n : ℕ) (past : List Item) (p : ℕ) → walk file n ≡ going past p → Accepted (saidBy past) rest
+    → drop p file ≡ joined bytes rest → EndsAfter file (reverseAux past rest)
 reads-on file [] n past p here l e = absurd l
 reads-on file (x ∷ rest) n past p here l e = at-end (isEnd x) refl (l .1) (reads-on file rest (suc n) (x ∷ past) (p + length (bytes x)))
   where
     read : next file (saidBy past) p ≡ Ok (x, p + length (bytes x))
     read = next-reads file (saidBy past) p x (joined bytes rest) e (l .0)
 
-    at-end : (b : Bool) → isEnd x ≡ b → When b (rest ≡ []) (Lawful (said (saidBy past) x) rest)
-        → (walk file (suc n) ≡ going (x ∷ past) (p + length (bytes x)) → Lawful (saidBy (x ∷ past)) rest
-        → drop (p + length (bytes x)) file ≡ joined bytes rest → sheetAfter (wholeWalk file) ≡ Ok (sheetOf (saidIn (saidBy (x ∷ past)) rest)))
-        → sheetAfter (wholeWalk file) ≡ Ok (sheetOf (saidIn (saidBy past) (x ∷ rest)))
+    at-end : (b : Bool) → isEnd x ≡ b → When b (rest ≡ []) (Accepted (said (saidBy past) x) rest)
+        → (walk file (suc n) ≡ going (x ∷ past) (p + length (bytes x)) → Accepted (saidBy (x ∷ past)) rest
+        → drop (p + length (bytes x)) file ≡ joined bytes rest → EndsAfter file (reverseAux past (x ∷ rest)))
+        → EndsAfter file (reverseAux past (x ∷ rest))
     at-end true k none more =
         let is : x ≡ end = end-is x k in
         let only : x ∷ rest ≡ end ∷ [] = cc in
         let after : drop (p + length (bytes x)) file ≡ [] = after-record file p x (joined bytes rest) e ∙ ap (joined bytes) none in
         let last : p + length (bytes x) ≡ length file =
         omega (arith, room file p x (joined bytes rest) e, length-drop (p + length (bytes x)) file, ap length after) in
-        ap sheetAfter (whole-end file n past p x _ here read k last) ∙ ap (λ (xs : List Item). Ok (sheetOf (saidIn (saidBy past) xs))) (sym only)
+        record { past = past; ends = whole-end file n past p x _ here read k last; whole = ap (reverseAux past) only }
     at-end false k later more = more (walk-more file n past p x _ here read k) later (after-record file p x (joined bytes rest) e)
+
+-- a file of lawful records is read to the end
+reads-all : (file : List ℕ) (records : List Item) → Lawful records → joined bytes records ≡ file → EndsAfter file records
+reads-all file records l same = reads-on file records 0 [] 0 (walk-begins file) (accepted records l) (sym same)
+
+-- where the walk has ended, what it was told is what the records say
+said-all : (file : List ℕ) (records : List Item) (r : EndsAfter file records) → saidBy (r .past) ≡ saidIn nothing records
+said-all file records r = sym (ap (saidIn nothing) (r .whole) ∙ said-same (r .past) (end ∷ []))
 
 -- a file is read exactly if it is the bytes of lawful records
 pub reads-exactly : Reads-exactly
 unfolding reading
 reads-exactly file small s = (
   λ e. written-from file (wholeWalk file) (walked file (suc (length file))) (spelt file small (suc (length file))) s e,
-  λ w. reads-on file (w .records) 0 [] 0 (walk-starts file) (w .lawful) (sym (w .same)) ∙ ap Ok (w .says),
+  λ w. let r = reads-all file (w .records) (w .lawful) (w .same) in
+      reading-by file (ended (r .past)) (r .ends) ∙ ap (λ (t : Said). Ok (sheetOf t)) (said-all file (w .records) r) ∙ ap Ok (w .says),
 )
+
+-- what a walk says of a step's name: its fault first, then that the step is not there, then an answer
+named-after : (p : Progress) (w : ℕ)
+    → ((f : ReaderFault) → sheetAfter p ≡ Err f → nameAfter p w ≡ Err (Reader f))
+    × ((s : Sheet) → sheetAfter p ≡ Ok s → s .steps ≤ w → nameAfter p w ≡ Err (Run (NoSuchStep w)))
+    × ((s : Sheet) → sheetAfter p ≡ Ok s → w < s .steps → (o : Option (ℕ × List ℕ)) × (nameAfter p w ≡ Ok o))
+named-after (going past q) w = (
+  λ f e. let same : fault cause.CutShort q ≡ f = cc in ap (λ (g : ReaderFault). Err (Reader g)) same,
+  λ s e h. absurd (read-or-fault _ _ (sym e)),
+  λ s e h. absurd (read-or-fault _ _ (sym e)),
+)
+named-after (faulty g) w = (
+  λ f e. let same : g ≡ f = cc in ap (λ (x : ReaderFault). Err (Reader x)) same,
+  λ s e h. absurd (read-or-fault _ _ (sym e)),
+  λ s e h. absurd (read-or-fault _ _ (sym e)),
+)
+named-after (ended past) w = (
+  λ f e. absurd (read-or-fault _ _ e),
+  λ s e h. let same : sheetOf (saidBy past) ≡ s = cc in
+      cond-false _ _ _ (le-ltb w (saidBy past .steps) (omega (arith, ap (λ (x : Sheet). x .steps) same))),
+  λ s e h. let same : sheetOf (saidBy past) ≡ s = cc in
+      (nameIn past w, cond-true _ _ _ (lt-ltb w (saidBy past .steps) (omega (arith, ap (λ (x : Sheet). x .steps) same)))),
+)
+
+-- the faults of a file come ahead of a step that is not there
+pub faults-first : Faults-first
+unfolding reading naming
+faults-first file w = named-after (wholeWalk file) w
+
+-- the name of a step is the one that the records of the file say
+pub names-exactly : Names-exactly
+names-exactly file records l same w h =
+    let r = reads-all file records l same in
+    let g : Ended file (r .past) = subst (Walked file (suc (length file))) (r .ends) (walked file (suc (length file))) in
+    let steps = ap (λ (t : Said). t .steps) (said-all file records r) ∙ steps-said records l in
+    naming-by file w (ended (r .past)) (r .ends) ∙ cond-true _ _ _ (lt-ltb w (saidBy (r .past) .steps) (omega arith))
+    ∙ ap Ok (sym (or-none (nameIn (r .past) w)) ∙ sym (names-same (r .past) (end ∷ []) w (g .admitted)) ∙ ap (λ (xs : List Item). nameOf 0 xs w) (sym (r .whole)))

@@ -1,8 +1,11 @@
+pub mod Accepting
+pub mod Admitting
 pub mod Advancing
 pub mod Kept
 pub mod Laws
 pub mod Ledgers
 pub mod Limited
+pub mod Named
 pub mod Nexts
 pub mod Room
 pub mod Walking

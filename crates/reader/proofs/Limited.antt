@@ -1,25 +1,21 @@
 -- The sheet that a whole file says keeps every limit.
 use mathlib.Core.Path.{_≡_}
-use mathlib.Core.Bool.{true, not}
+use mathlib.Core.Bool.{true}
 use mathlib.Core.List.{List, [], _∷_}
-use Prim.Native.Nat.{ℕ, _<_, _≤_}
+use Prim.Native.Nat.{ℕ, _<_}
 use native.Mathlib.Omega.{arith}
-use lib.Dec.{ltb}
 use lib.ListN.{length, getD}
 use Rattle.std.proofs.shelf.Elements.{all-getD}
-use Rattle.std.proofs.shelf.Tests.{and-parts, ltb-false, not-true, false≢true}
+use Rattle.std.proofs.shelf.Tests.{false≢true}
 use Rattle.sheet.specs.Fit.{EffectFits, PairFits, noEffect, noPair}
 use Rattle.sheet.specs.Limits.{Limits, noNeed}
 use Rattle.reader.specs.declared.record.Mark.the-variants as mark
 use Rattle.reader.specs.Item.{Item}
 use Rattle.reader.specs.Lawful.{stands}
 use Rattle.reader.specs.Said.{Said, saidBy, sheetOf}
+use Rattle.reader.proofs.Accepting.{stands-ready}
 use Rattle.reader.proofs.Kept.{Kept, NeedKept, kept}
 use Rattle.reader.proofs.Walking.{Admitted}
-
--- where the end may stand, every start word is read
-all-started : (s : Said) → stands s mark.End ≡ true → s .signals ≤ length (s .starts)
-all-started s e = ltb-false (length (s .starts)) (s .signals) (not-true _ (and-parts (ltb 0 (s .steps)) (not (ltb (length (s .starts)) (s .signals))) e .1))
 
 -- what is kept, with all start words read, are the limits of the sheet
 limits-kept : (s : Said) → Kept s → s .signals ≡ length (s .starts) → Limits (sheetOf s)
@@ -41,4 +37,4 @@ pub limits-said : (past : List Item) → Admitted past → stands (saidBy past) 
 limits-said [] a e = absurd (false≢true e)
 limits-said (x ∷ past) a e =
     let k = kept x past a in
-    limits-kept (saidBy (x ∷ past)) k (omega (arith, all-started (saidBy (x ∷ past)) e, k .start-count))
+    limits-kept (saidBy (x ∷ past)) k (omega (arith, stands-ready (saidBy (x ∷ past)) e, k .start-count))

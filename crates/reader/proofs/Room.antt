@@ -14,7 +14,8 @@ use Rattle.sheet.specs.Sets.{mem}
 use Rattle.reader.specs.Item.{Item, header, start, effect, need, pair, link, name, end, bytes, size, isEnd}
 use Rattle.reader.specs.Lawful.{Admissible}
 use Rattle.reader.specs.Said.{Said, said, saidBy, nothing, linkedBy, open-need}
-use Rattle.reader.proofs.Kept.{Apart, Kept, kept, first-header, no-header, in-between}
+use Rattle.reader.proofs.Admitting.{keeps}
+use Rattle.reader.proofs.Kept.{Apart, Kept, kept, first-header, no-header}
 use Rattle.reader.proofs.Walking.{Admitted}
 
 -- the list without the first k
@@ -71,7 +72,7 @@ budget s =
 
 -- one record more takes no more than its room
 budget-more : (s : Said) (x : Item) (n : ℕ) → Kept s → Admissible s x → isEnd x ≡ false → n ≤ budget s → n + length (bytes x) ≤ budget (said s x)
-budget-more s (header m v) n k a o h = absurd (no-header s k (a .placed))
+budget-more s (header m v) n k a o h = absurd (no-header s (omega (arith, k .step-count)) (a .placed))
 budget-more s (start w) n k a o h = omega (arith, length-push (s .starts) w)
 budget-more s (effect e) n k a o h = omega (arith, length-push (s .effects) e)
 budget-more s (need w x l u) n k a o h = omega (arith, length-push (s .needs) (open-need w x l u))
@@ -79,8 +80,8 @@ budget-more s (pair e l) n k a o h =
     let new : Pair = record { earlier = e; later = l } in
     omega (arith, length-push (s .pairs) new)
 budget-more s (link m cs) n k a o h =
-    omega (arith, length-set (s .needs) m (linkedBy cs (getD (s .needs) m noNeed)), in-between 1 (length cs) 64 (a .formed))
-budget-more s (name w bs) n k a o h = omega (arith, in-between 1 (length bs) 24 (a .formed))
+    omega (arith, length-set (s .needs) m (linkedBy cs (getD (s .needs) m noNeed)), keeps s (link m cs) a .1)
+budget-more s (name w bs) n k a o h = omega (arith, keeps s (name w bs) a .1)
 budget-more s end n k a o h = absurd (true≢false o)
 
 -- admitted records take no more than their room

@@ -1,26 +1,24 @@
--- Which record may come next, and which lists of records are lawful.
+-- Which record may come next, by the tests that are made of it.
 --   stands s m        a record with the mark m may stand here
 --   objection s x     the first rule that the record x breaks after what is said so far, if any
 --   wellFormed x      the record keeps the limits of its own fields
 --   Admissible s x    the record x may come after what is said so far
---   Lawful s xs       these records may follow what is said so far, up to the end record, which is the last
 use mathlib.Core.Path.{_≡_}
 use mathlib.Core.Bool.{Bool, true, false, cond, not, _&&_, _||_}
 use mathlib.Core.List.{List, [], _∷_}
 use Prim.Native.Nat.{ℕ, suc}
-use lib.Dec.{eqb, leb, ltb}
+use lib.Dec.{eqb, ltb}
 use lib.ListN.{length}
 use Rattle.std.specs.declared.option.Option.{Option}
 use Rattle.std.specs.declared.option.Option.the-variants.{Some, None}
-use Rattle.std.specs.Orderings.{When}
 use Rattle.sheet.specs.declared.fault.Cause.{Cause}
 use Rattle.sheet.specs.declared.fault.Cause.the-variants as cause
 use Rattle.sheet.specs.declared.parts.Effect.{Effect}
 use Rattle.sheet.specs.Sets.{mem}
 use Rattle.reader.specs.declared.record.Mark.{Mark}
 use Rattle.reader.specs.declared.record.Mark.the-variants as mark
-use Rattle.reader.specs.Item.{Item, header, start, effect, need, pair, link, name, end, kind, isEnd}
-use Rattle.reader.specs.Said.{Said, said}
+use Rattle.reader.specs.Item.{Item, header, start, effect, need, pair, link, name, end, kind}
+use Rattle.reader.specs.Said.{Said}
 use Rattle.reader.specs.Shape.{between}
 
 -- a mark may stand after this many steps and signals are announced, and this many start words are read
@@ -86,7 +84,3 @@ pub record Admissible (s : Said) (x : Item) : Type 0 where
   pub formed : wellFormed x ≡ true
   pub placed : stands s (kind x) ≡ true
   pub allowed : objection s x ≡ None
-
-abbrev pub Lawful : Said → List Item → Type 0
-Lawful s [] = ⊥
-Lawful s (x ∷ xs) = Admissible s x × When (isEnd x) (xs ≡ []) (Lawful (said s x) xs)

@@ -5,6 +5,7 @@ pub mod Law
 pub mod Lawful
 pub mod Reading
 pub mod Results
+pub mod Rules
 pub mod Said
 pub mod Shape
 pub mod Shows

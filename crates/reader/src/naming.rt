@@ -2,6 +2,7 @@
 ghost use mathlib.Core.Path.{_≡_};
 ghost use mathlib.Core.List.{List, _∷_};
 ghost use Rattle.reader.specs.Item.{Item, size};
+ghost use Rattle.reader.specs.Law.{Faults-first, Names-exactly};
 ghost use Rattle.reader.specs.Reading.{naming, nameIn};
 ghost use Rattle.reader.specs.Results.{named, partOf};
 ghost use Rattle.reader.specs.View.{itemOf, PlacedAt};
@@ -31,7 +32,9 @@ fn or_newer<'a>(found: Option<Part<'a>>, candidate: Record<'a>, step: u16) -> Op
 
 // The whole file is read first, so its faults come ahead of a step that is not there.
 pub fn name<'a>(file: &'a [u8], step: u16) -> Result<Option<Part<'a>>, Fault>
-    ensures { λ r. ⌜ named r ≡ naming (now (file .entry)) step ⌝ }
+    ensures value { λ r. ⌜ named r ≡ naming (now (file .entry)) step ⌝ }
+    ensures first { λ _. ⌜ Faults-first ⌝ }
+    ensures exact { λ _. ⌜ Names-exactly ⌝ }
 {
     let mut ledger = Ledger::new();
     let mut found = None;

@@ -14,6 +14,7 @@ use Rattle.reader.specs.Results.{named}
 use Rattle.reader.specs.Said.{saidBy}
 use Rattle.reader.specs.View.{itemOf, PlacedAt}
 use Rattle.reader.proofs.Advancing.{naming-by, walk-begins, further, answer-at}
+use Rattle.reader.proofs.Laws.{faults-first, names-exactly}
 use Rattle.reader.proofs.Walking.{walk-going}
 use Rattle.reader.proofs.naming.name.Needs as need
 
@@ -24,7 +25,10 @@ pub returns-in-Break-record : need.returns-in-Break-record
 returns-in-Break-record c =
     let i = c .records .inv in
     let p = err-from-errBy (c .from-residual .result) (c .from-residual .ensures .1) in
-    rw (p .1, p .2) (sym (naming-by (c .args .file .now) (c .args .step) (faulty _) (c .in-Break-record .ensures tt (i .0) (i .1) (i .2) (i .3))))
+    rw (p .1, p .2)
+    (record
+      { value = sym (naming-by (c .args .file .now) (c .args .step) (faulty _) (c .in-Break-record .ensures tt (i .0) (i .1) (i .2) (i .3)))
+      ; first = faults-first; exact = names-exactly })
 
 pub records-less : need.records-less
 records-less c =
@@ -55,7 +59,9 @@ returns-then-step-from c =
     let from = c .from .ensures in
     let steps = c .steps .ensures in
     let inside : c .args .step < saidBy (i .0) .steps = omega arith in
-    sym (naming-by file (c .args .step) (ended (i .0)) (end .0) ∙ cond-true _ _ _ (lt-ltb _ _ inside) ∙ ap Ok (sym (i .4)))
+    record
+      { value = sym (naming-by file (c .args .step) (ended (i .0)) (end .0) ∙ cond-true _ _ _ (lt-ltb _ _ inside) ∙ ap Ok (sym (i .4)))
+      ; first = faults-first; exact = names-exactly }
 
 pub returns-else-step-from : need.returns-else-step-from
 returns-else-step-from c =
@@ -67,4 +73,6 @@ returns-else-step-from c =
     let from = c .from .ensures in
     let steps = c .steps .ensures in
     let outside : saidBy (i .0) .steps ≤ c .args .step = omega arith in
-    sym (naming-by file (c .args .step) (ended (i .0)) (end .0) ∙ cond-false _ _ _ (le-ltb _ _ outside))
+    record
+      { value = sym (naming-by file (c .args .step) (ended (i .0)) (end .0) ∙ cond-false _ _ _ (le-ltb _ _ outside))
+      ; first = faults-first; exact = names-exactly }
