@@ -2,11 +2,9 @@
 ghost use mathlib.Core.Path.{_≡_};
 ghost use Rattle.sheet.specs.declared.fault.Fault.the-variants.{Reader, Run, Plant, Report};
 use crate::verdict::Flaw;
-use crate::verdict::FlawDebug;
-use crate::verdict::FlawPartialEq;
 
 // Which rule a record of a sheet file breaks.
-#[derive(Clone, Copy, PartialEq, Eq, Debug)]
+#[derive(Clone, Copy)]
 pub enum Cause {
     CutShort,
     Mark,
@@ -20,14 +18,14 @@ pub enum Cause {
 }
 
 // A fault of a sheet file. Its place is the offset of the record's mark.
-#[derive(Clone, Copy, PartialEq, Eq, Debug)]
+#[derive(Clone, Copy)]
 pub struct ReaderFault {
     pub cause: Cause,
     pub place: u16,
 }
 
 // Why a call on a run is turned down.
-#[derive(Clone, Copy, PartialEq, Eq, Debug)]
+#[derive(Clone, Copy)]
 pub enum RunFault {
     DoesNotPass { flaw: Flaw },
     TooFewSignals { count: u16 },
@@ -44,7 +42,7 @@ pub enum RunFault {
 }
 
 // Why a plant turns a read or a write down.
-#[derive(Clone, Copy, PartialEq, Eq, Debug)]
+#[derive(Clone, Copy)]
 pub enum PlantFault {
     NoSignal { signal: u16 },
     AboveTop { signal: u16 },
@@ -56,7 +54,7 @@ pub enum ReportFault {
     BufferTooShort { length: u16 },
 }
 
-#[derive(Clone, Copy, PartialEq, Eq, Debug)]
+#[derive(Clone, Copy)]
 pub enum Fault {
     Reader(ReaderFault),
     Run(RunFault),

@@ -5,3 +5,6 @@ pub mod numbering;
 pub mod parts;
 pub mod sheet;
 pub mod verdict;
+
+#[cfg(test)]
+mod tests;
