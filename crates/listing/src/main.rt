@@ -2,11 +2,10 @@
 mod lines;
 mod name;
 mod parts;
-mod text;
-mod whole;
-
 #[cfg(test)]
 mod tests;
+mod text;
+mod whole;
 
 use reader::ReadError;
 use report::report_fault;

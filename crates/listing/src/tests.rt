@@ -1,113 +1,67 @@
-// The text of sheets and of names, whole.
+// The text of whole files, and of names.
 use crate::name::push_name;
-use crate::text::push_sheet;
-use sheet::index_set::IndexSet;
-use sheet::parts::Effect;
-use sheet::parts::Link;
-use sheet::parts::Need;
-use sheet::parts::Pair;
-use sheet::sheet::Sheet;
+use crate::whole::list;
+use reader::ReadError;
+use sheet::fault::Fault;
 use std::test::*;
 
-fn link(contributors: &[u8]) -> Option<Link> {
-    let mut set = IndexSet::empty();
-    for step in contributors {
-        set = set.with(*step);
+// Names come in order of steps, and the contributors of a link in rising order, each once, however the file has them.
+const LISTED: [(&[u8], &str); 3] = [
+    (
+        b"SH\x02\x01SG\xff\xffEN",
+        "SHEET steps 2 signals 1\nSIGNAL 0 word 65535\n",
+    ),
+    (
+        b"SH\x03\x01SG\x00\x00NM\x02\x01BNM\x00\x01AEN",
+        "SHEET steps 3 signals 1\nSIGNAL 0 word 0\nNAME step 0 at 17 A\nNAME step 2 at 12 B\n",
+    ),
+    (
+        b"SH\x40\x01SG\x00\x07ND\x3f\x00\xff\xff\x01\x00LK\x00\x05\x3e\x09\x0a\x00\x09EN",
+        "SHEET steps 64 signals 1\nSIGNAL 0 word 7\nNEED 0 step 63 signal 0 a 65535 b 256 link 0 9 10 62\n",
+    ),
+];
+
+#[test]
+fn listed(rt: LibcRuntime) -> Result<(), Fail> {
+    for row in LISTED.iter() {
+        match list(rt.alloc(), row.0) {
+            Ok(text) => check_eq(text.as_str(), row.1)?,
+            Err(_) => return Err(Fail::new(row.1)),
+        }
     }
-    Link::new(set)
+    Ok(())
 }
 
 #[test]
-fn sheet_of_every_part(rt: LibcRuntime) -> Result<(), Fail> {
-    let heap = rt.alloc();
-    let effect = Effect {
-        step: 1,
-        signal: 0,
-        word: 1,
-    };
-    let linked = Need {
-        step: 1,
-        signal: 0,
-        a: 1,
-        b: 0,
-        link: link(&[0]),
-    };
-    let open = Need {
-        step: 2,
-        signal: 0,
-        a: 2,
-        b: 0,
-        link: None,
-    };
-    let pair = Pair {
-        earlier: 1,
-        later: 2,
-    };
-    let starts = vec![in heap; 0]?;
-    let effects = vec![in heap; effect]?;
-    let needs = vec![in heap; linked, open]?;
-    let pairs = vec![in heap; pair]?;
-    let sheet = Sheet::new(3, starts, effects, needs, pairs).ok_or("no sheet")?;
-    let mut text = String::new(heap);
-    push_sheet(&mut text, &sheet)?;
-    push_name(&mut text, 1, 44, b"Press takes")?;
-    check_eq(
-        text.as_str(),
-        "SHEET steps 3 signals 1\n\
-         SIGNAL 0 word 0\n\
-         EFFECT 0 step 1 signal 0 word 1\n\
-         NEED 0 step 1 signal 0 a 1 b 0 link 0\n\
-         NEED 1 step 2 signal 0 a 2 b 0 link none\n\
-         PAIR 0 step 1 ahead of step 2\n\
-         NAME step 1 at 44 Press takes\n",
-    )
+fn refused(rt: LibcRuntime) -> Result<(), Fail> {
+    match list(rt.alloc(), b"SH\x03\x01SG\x00\x00PR\x07\x01EN") {
+        Err(ReadError::Fault(fault)) => {
+            let fault = Fault::Reader(fault);
+            check_eq((fault.number(), fault.place()), (4, 8))
+        }
+        Err(ReadError::Memory) => Err(Fail::new("no memory")),
+        Ok(_) => Err(Fail::new("listed")),
+    }
 }
 
-// The text goes behind what stands there, and the contributors of a link rise however they came.
-#[test]
-fn sheet_of_needs_alone(rt: LibcRuntime) -> Result<(), Fail> {
-    let heap = rt.alloc();
-    let need = Need {
-        step: 63,
-        signal: 1,
-        a: 65535,
-        b: 256,
-        link: link(&[62, 9, 10, 0, 9]),
-    };
-    let starts = vec![in heap; 7, 65535]?;
-    let effects = Vec::new(heap);
-    let needs = vec![in heap; need]?;
-    let pairs = Vec::new(heap);
-    let sheet = Sheet::new(64, starts, effects, needs, pairs).ok_or("no sheet")?;
-    let mut text = String::from_str(heap, "PASS\n")?;
-    push_sheet(&mut text, &sheet)?;
-    check_eq(
-        text.as_str(),
-        "PASS\n\
-         SHEET steps 64 signals 2\n\
-         SIGNAL 0 word 7\n\
-         SIGNAL 1 word 65535\n\
-         NEED 0 step 63 signal 1 a 65535 b 256 link 0 9 10 62\n",
-    )
-}
+const NAMES: [(&[u8], &str); 6] = [
+    (b"", "NAME step 63 at 65535 \n"),
+    (b" ~", "NAME step 63 at 65535  ~\n"),
+    (
+        b"\x00\x1f\x7f\xff",
+        "NAME step 63 at 65535 \\x00\\x1f\\x7f\\xff\n",
+    ),
+    (b"a\\b", "NAME step 63 at 65535 a\\x5cb\n"),
+    (b"\n\xa9", "NAME step 63 at 65535 \\x0a\\xa9\n"),
+    (b"[]", "NAME step 63 at 65535 []\n"),
+];
 
 #[test]
 fn names(rt: LibcRuntime) -> Result<(), Fail> {
-    let table: [(&[u8], &str); 6] = [
-        (b"", "NAME step 63 at 65535 \n"),
-        (b" ~", "NAME step 63 at 65535  ~\n"),
-        (
-            b"\x00\x1f\x7f\xff",
-            "NAME step 63 at 65535 \\x00\\x1f\\x7f\\xff\n",
-        ),
-        (b"a\\b", "NAME step 63 at 65535 a\\x5cb\n"),
-        (b"\n\xa9", "NAME step 63 at 65535 \\x0a\\xa9\n"),
-        (b"[]", "NAME step 63 at 65535 []\n"),
-    ];
-    for (name, line) in table {
+    for row in NAMES.iter() {
         let mut text = String::new(rt.alloc());
-        push_name(&mut text, 63, 65535, name)?;
-        check_eq(text.as_str(), line)?;
+        push_name(&mut text, 63, 65535, row.0)?;
+        check_eq(text.as_str(), row.1)?;
     }
     Ok(())
 }

@@ -43,30 +43,32 @@ pub set-by-more : (rows : List IndexSet) (es : List Effect) (e : Effect) (more :
     → ((k : ℕ) → k < 64 → has more k ≡ (eqb k (e .signal) || has (getD rows (e .step) emptySet) k)) → e .step < 64
     → (w x : ℕ) → w < 64 → x < 64 → has (getD (set rows (e .step) more) w emptySet) x ≡ sets (es ++ e ∷ []) w x
 set-by-more rows es e more long was new inside w x hw hx =
-    elim (cases-eq w (e .step))
-      [ inl same ↦
+    elim (cases-eq w (e .step)) [
+      | inl same ↦
           let here : has (getD (set rows (e .step) more) (e .step) emptySet) x ≡ (eqb x (e .signal) || sets es (e .step) x) =
-              ap (λ (r : IndexSet). has r x) (getD-set-same rows (e .step) more emptySet (omega arith)) ∙ new x hx
-              ∙ ap (λ (b : Bool). eqb x (e .signal) || b) (was (e .step) x inside hx) in
+          ap (λ (r : IndexSet). has r x) (getD-set-same rows (e .step) more emptySet (omega arith)) ∙ new x hx
+          ∙ ap (λ (b : Bool). eqb x (e .signal) || b) (was (e .step) x inside hx) in
           let pushed : sets (es ++ e ∷ []) (e .step) x ≡ (eqb x (e .signal) || sets es (e .step) x) =
-              sets-push es e (e .step) x
-              ∙ ap (λ (b : Bool). (b && eqb (e .signal) x) || sets es (e .step) x) (eq-eqb (e .step) (e .step) refl)
-              ∙ ap (λ (b : Bool). b || sets es (e .step) x) (eqb-flip (e .signal) x) in
+          sets-push es e (e .step) x
+          ∙ ap (λ (b : Bool). (b && eqb (e .signal) x) || sets es (e .step) x) (eq-eqb (e .step) (e .step) refl)
+          ∙ ap (λ (b : Bool). b || sets es (e .step) x) (eqb-flip (e .signal) x) in
           subst (λ (k : ℕ). has (getD (set rows (e .step) more) k emptySet) x ≡ sets (es ++ e ∷ []) k x) (sym same) (here ∙ sym pushed)
       | inr other ↦
           ap (λ (r : IndexSet). has r x) (getD-set-other rows (e .step) w more emptySet other) ∙ was w x hw hx
-          ∙ sym (sets-push es e w x ∙ ap (λ (b : Bool). (b && eqb (e .signal) x) || sets es w x) (ne-eqb (e .step) w (λ q. other (sym q)))) ]
+          ∙ sym (sets-push es e w x ∙ ap (λ (b : Bool). (b && eqb (e .signal) x) || sets es w x) (ne-eqb (e .step) w (λ q. other (sym q))))
+    ]
 
 -- one need more that has a link record
 pub linked-more : (flags : List Bool) (ns : List ℕ) (n : ℕ) → n < length flags
     → ((k : ℕ) → k < 256 → getD flags k false ≡ mem k ns)
     → (k : ℕ) → k < 256 → getD (set flags n true) k false ≡ mem k (n ∷ ns)
 linked-more flags ns n inside was k h =
-    elim (cases-eq k n)
-      [ inl same ↦
+    elim (cases-eq k n) [
+      | inl same ↦
           subst (λ (j : ℕ). getD (set flags n true) j false ≡ mem j (n ∷ ns)) (sym same)
-            (getD-set-same flags n true false inside ∙ sym (ap (λ (b : Bool). b || mem n ns) (eq-eqb n n refl)))
-      | inr other ↦ getD-set-other flags n k true false other ∙ was k h ∙ sym (ap (λ (b : Bool). b || mem k ns) (ne-eqb k n other)) ]
+          (getD-set-same flags n true false inside ∙ sym (ap (λ (b : Bool). b || mem n ns) (eq-eqb n n refl)))
+      | inr other ↦ getD-set-other flags n k true false other ∙ was k h ∙ sym (ap (λ (b : Bool). b || mem k ns) (ne-eqb k n other))
+    ]
 
 pub some-none : {A : Type 0} {x : A} → Some x ≡ None → ⊥
 some-none e = let z : _≡_ {A = ℕ} 0 1 = cc in omega arith

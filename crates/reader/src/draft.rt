@@ -46,16 +46,23 @@ impl Draft {
     pub(crate) fn new(heap: Global) -> Draft
         ensures { λ r. ⌜ draftSheet r ≡ sheetOf nothing ⌝ }
     {
-        Draft { steps: 0, starts: Vec::new(heap), effects: Vec::new(heap), needs: Vec::new(heap), pairs: Vec::new(heap) }
+        Draft {
+            steps: 0,
+            starts: Vec::new(heap),
+            effects: Vec::new(heap),
+            needs: Vec::new(heap),
+            pairs: Vec::new(heap),
+        }
     }
 
     fn link(&mut self, need: u8, contributors: &[u8])
         ensures { λ _. ⌜ draftSheet (now (self .exit)) ≡ record {
-            steps = now (self .entry) .steps;
-            starts = draftSheet (now (self .entry)) .starts;
-            effects = draftSheet (now (self .entry)) .effects;
-            needs = set (draftSheet (now (self .entry)) .needs) need (linkedBy (now (contributors .entry)) (getD (draftSheet (now (self .entry)) .needs) need noNeed));
-            pairs = draftSheet (now (self .entry)) .pairs } ⌝ }
+          steps = now (self .entry) .steps;
+          starts = draftSheet (now (self .entry)) .starts;
+          effects = draftSheet (now (self .entry)) .effects;
+          needs = set (draftSheet (now (self .entry)) .needs) need (linkedBy (now (contributors .entry)) (getD (draftSheet (now (self .entry)) .needs) need noNeed));
+          pairs = draftSheet (now (self .entry)) .pairs;
+        } ⌝ }
     {
         let at = usize::from(need);
         if at < self.needs.len() {
@@ -83,7 +90,14 @@ impl Draft {
                 Ok(())
             }
             Record::Need { step, signal, a, b } => {
-                self.needs.push(Need { step, signal, a, b, link: None })?;
+                self.needs
+                    .push(Need {
+                        step,
+                        signal,
+                        a,
+                        b,
+                        link: None,
+                    })?;
                 Ok(())
             }
             Record::Pair { earlier, later } => {
@@ -103,7 +117,13 @@ impl Draft {
     pub(crate) fn finish(self) -> Option<Sheet>
         ensures { λ r. ⌜ Found r (Limits (draftSheet self) → ⊥) (λ s. model s ≡ draftSheet self) ⌝ }
     {
-        let Draft { steps, starts, effects, needs, pairs } = self;
+        let Draft {
+            steps,
+            starts,
+            effects,
+            needs,
+            pairs,
+        } = self;
         Sheet::new(steps, starts, effects, needs, pairs)
     }
 }

@@ -23,12 +23,33 @@ pub struct Part<'a> {
 
 #[derive(Clone, Copy)]
 pub enum Record<'a> {
-    Header { steps: u8, signals: u8 },
-    Start { word: u16 },
-    Effect { effect: Effect },
-    Need { step: u8, signal: u8, a: u16, b: u16 },
-    Pair { earlier: u8, later: u8 },
-    Link { need: u8, contributors: Part<'a> },
-    Name { step: u8, name: Part<'a> },
+    Header {
+        steps: u8,
+        signals: u8,
+    },
+    Start {
+        word: u16,
+    },
+    Effect {
+        effect: Effect,
+    },
+    Need {
+        step: u8,
+        signal: u8,
+        a: u16,
+        b: u16,
+    },
+    Pair {
+        earlier: u8,
+        later: u8,
+    },
+    Link {
+        need: u8,
+        contributors: Part<'a>,
+    },
+    Name {
+        step: u8,
+        name: Part<'a>,
+    },
     End,
 }

@@ -39,7 +39,10 @@ fn reaches(file: &[u8], at: u16, end: usize) -> Result<(), ReaderFault>
     if end <= file.len() {
         Ok(())
     } else {
-        Err(ReaderFault { cause: Cause::CutShort, place: at })
+        Err(ReaderFault {
+            cause: Cause::CutShort,
+            place: at,
+        })
     }
 }
 
@@ -50,7 +53,10 @@ pub(crate) fn mark_at(file: &[u8], at: u16) -> Result<Mark, ReaderFault>
     reaches(file, at, place + 2)?;
     match mark_of(file[place], file[place + 1]) {
         Some(mark) => Ok(mark),
-        None => Err(ReaderFault { cause: Cause::Mark, place: at }),
+        None => Err(ReaderFault {
+            cause: Cause::Mark,
+            place: at,
+        }),
     }
 }
 
@@ -69,7 +75,10 @@ fn header_at<'a>(file: &'a [u8], at: u16) -> Result<(Record<'a>, usize), ReaderF
     let steps = file[place + 2];
     let signals = file[place + 3];
     if steps < 2 || steps > 64 || signals < 1 || signals > 64 {
-        return Err(ReaderFault { cause: Cause::OffLimits, place: at });
+        return Err(ReaderFault {
+            cause: Cause::OffLimits,
+            place: at,
+        });
     }
     Ok((Record::Header { steps, signals }, place + 4))
 }
@@ -79,7 +88,12 @@ fn start_at<'a>(file: &'a [u8], at: u16) -> Result<(Record<'a>, usize), ReaderFa
 {
     let place = usize::from(at);
     reaches(file, at, place + 4)?;
-    Ok((Record::Start { word: word(file, place + 2) }, place + 4))
+    Ok((
+        Record::Start {
+            word: word(file, place + 2),
+        },
+        place + 4,
+    ))
 }
 
 fn effect_at<'a>(file: &'a [u8], at: u16) -> Result<(Record<'a>, usize), ReaderFault>
@@ -87,7 +101,11 @@ fn effect_at<'a>(file: &'a [u8], at: u16) -> Result<(Record<'a>, usize), ReaderF
 {
     let place = usize::from(at);
     reaches(file, at, place + 6)?;
-    let effect = Effect { step: file[place + 2], signal: file[place + 3], word: word(file, place + 4) };
+    let effect = Effect {
+        step: file[place + 2],
+        signal: file[place + 3],
+        word: word(file, place + 4),
+    };
     Ok((Record::Effect { effect }, place + 6))
 }
 
@@ -98,7 +116,15 @@ fn need_at<'a>(file: &'a [u8], at: u16) -> Result<(Record<'a>, usize), ReaderFau
     reaches(file, at, place + 8)?;
     let a = word(file, place + 4);
     let b = word(file, place + 6);
-    Ok((Record::Need { step: file[place + 2], signal: file[place + 3], a, b }, place + 8))
+    Ok((
+        Record::Need {
+            step: file[place + 2],
+            signal: file[place + 3],
+            a,
+            b,
+        },
+        place + 8,
+    ))
 }
 
 fn pair_at<'a>(file: &'a [u8], at: u16) -> Result<(Record<'a>, usize), ReaderFault>
@@ -106,7 +132,13 @@ fn pair_at<'a>(file: &'a [u8], at: u16) -> Result<(Record<'a>, usize), ReaderFau
 {
     let place = usize::from(at);
     reaches(file, at, place + 4)?;
-    Ok((Record::Pair { earlier: file[place + 2], later: file[place + 3] }, place + 4))
+    Ok((
+        Record::Pair {
+            earlier: file[place + 2],
+            later: file[place + 3],
+        },
+        place + 4,
+    ))
 }
 
 // The part whose length stands three bytes on from the mark, 1 to `most`, with its bytes behind that.
@@ -117,11 +149,17 @@ fn part_at<'a>(file: &'a [u8], at: u16, most: u8) -> Result<Part<'a>, ReaderFaul
     reaches(file, at, place + 4)?;
     let length = file[place + 3];
     if length < 1 || length > most {
-        return Err(ReaderFault { cause: Cause::OffLimits, place: at });
+        return Err(ReaderFault {
+            cause: Cause::OffLimits,
+            place: at,
+        });
     }
     let end = place + 4 + usize::from(length);
     reaches(file, at, end)?;
-    Ok(Part { place: place + 4, bytes: &file[place + 4..end] })
+    Ok(Part {
+        place: place + 4,
+        bytes: &file[place + 4..end],
+    })
 }
 
 fn link_at<'a>(file: &'a [u8], at: u16) -> Result<(Record<'a>, usize), ReaderFault>
@@ -130,7 +168,13 @@ fn link_at<'a>(file: &'a [u8], at: u16) -> Result<(Record<'a>, usize), ReaderFau
 {
     let contributors = part_at(file, at, 64)?;
     let end = contributors.place + contributors.bytes.len();
-    Ok((Record::Link { need: file[usize::from(at) + 2], contributors }, end))
+    Ok((
+        Record::Link {
+            need: file[usize::from(at) + 2],
+            contributors,
+        },
+        end,
+    ))
 }
 
 fn name_at<'a>(file: &'a [u8], at: u16) -> Result<(Record<'a>, usize), ReaderFault>
@@ -139,11 +183,21 @@ fn name_at<'a>(file: &'a [u8], at: u16) -> Result<(Record<'a>, usize), ReaderFau
 {
     let name = part_at(file, at, 24)?;
     let end = name.place + name.bytes.len();
-    Ok((Record::Name { step: file[usize::from(at) + 2], name }, end))
+    Ok((
+        Record::Name {
+            step: file[usize::from(at) + 2],
+            name,
+        },
+        end,
+    ))
 }
 
 // The record at a place of a file that begins with this mark, and the place after it.
-pub(crate) fn body_at<'a>(file: &'a [u8], at: u16, mark: Mark) -> Result<(Record<'a>, usize), ReaderFault>
+pub(crate) fn body_at<'a>(
+    file: &'a [u8],
+    at: u16,
+    mark: Mark,
+) -> Result<(Record<'a>, usize), ReaderFault>
     ensures value { λ r. ⌜ shown r ≡ bodyAt (now (file .entry)) at mark ⌝ }
     ensures places { λ r. ⌜ Placed at r ⌝ }
 {

@@ -33,12 +33,11 @@ impl IndexSet {
     pub fn with(self, index: u8) -> IndexSet
         ensures has { λ r. ⌜ ((k : ℕ) → k < 64 → has r k ≡ (eqb k index || has self k)) ⌝ }
     {
-        if index < 64 {
-            IndexSet {
-                mask: self.mask | 1 << index,
-            }
-        } else {
-            self
+        if index >= 64 {
+            return self;
+        }
+        IndexSet {
+            mask: self.mask | 1 << index,
         }
     }
 }

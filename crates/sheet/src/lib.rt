@@ -4,7 +4,6 @@ pub mod index_set;
 pub mod numbering;
 pub mod parts;
 pub mod sheet;
-pub mod verdict;
-
 #[cfg(test)]
 mod tests;
+pub mod verdict;

@@ -21,7 +21,17 @@ impl Ledger {
         ensures { λ r. ⌜ Shows r nothing ⌝ }
     {
         let none = IndexSet::empty();
-        Ledger { steps: 0, signals: 0, starts: 0, effects: 0, needs: 0, pairs: 0, set_by: [none; 64], linked: [false; 256], named: none }
+        Ledger {
+            steps: 0,
+            signals: 0,
+            starts: 0,
+            effects: 0,
+            needs: 0,
+            pairs: 0,
+            set_by: [none; 64],
+            linked: [false; 256],
+            named: none,
+        }
     }
 
     pub(crate) fn steps(&self) -> u8
@@ -154,7 +164,12 @@ impl Ledger {
                 None
             }
             Record::Effect { effect } => self.admit_effect(effect),
-            Record::Need { step, signal, a: _, b: _ } => self.admit_need(step, signal),
+            Record::Need {
+                step,
+                signal,
+                a: _,
+                b: _,
+            } => self.admit_need(step, signal),
             Record::Pair { earlier, later } => self.admit_pair(earlier, later),
             Record::Link { need, contributors } => self.admit_link(need, contributors.bytes),
             Record::Name { step, name: _ } => self.admit_name(step),

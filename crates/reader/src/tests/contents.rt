@@ -18,7 +18,8 @@ use std::test::*;
 
 // Three steps, one signal at 258. Step 1 sets it to 1 and has need 0; the finish has need 1, with no link. A link record
 // that names step 2 twice. A name for step 1.
-const SHEET: &[u8] = b"SH\x03\x01SG\x01\x02EF\x01\x00\xff\x01ND\x01\x00\x00\x01\x00\x02ND\x02\x00\x80\x00\x00\x00LK\x00\x03\x02\x00\x02PR\x00\x01NM\x01\x05PressEN";
+const SHEET: &[u8] =
+    b"SH\x03\x01SG\x01\x02EF\x01\x00\xff\x01ND\x01\x00\x00\x01\x00\x02ND\x02\x00\x80\x00\x00\x00LK\x00\x03\x02\x00\x02PR\x00\x01NM\x01\x05PressEN";
 
 fn sheet_of(heap: Global) -> Result<Sheet, Fail> {
     match read(heap, SHEET) {
@@ -61,7 +62,14 @@ fn needs_and_links(rt: LibcRuntime) -> Result<(), Fail> {
         return Err(Fail::new("a link"));
     };
     let contributors = link.contributors();
-    check_eq((contributors.contains(0), contributors.contains(1), contributors.contains(2)), (true, false, true))
+    check_eq(
+        (
+            contributors.contains(0),
+            contributors.contains(1),
+            contributors.contains(2),
+        ),
+        (true, false, true),
+    )
 }
 
 // Number, place and layer.
@@ -84,10 +92,30 @@ fn a_name() -> Result<(), Fail> {
 const UNNAMED: [(&str, &[u8], u16, Option<(u8, u16, Layer)>); 6] = [
     ("a step without a name", SHEET, 0, None),
     ("the finish", SHEET, 2, None),
-    ("the first number that is no step", SHEET, 3, Some((31, 3, Layer::Run))),
-    ("the last number", SHEET, 65535, Some((31, 65535, Layer::Run))),
-    ("the file's fault ahead of the step", b"SH\x03\x01SG\x00\x00", 65535, Some((1, 8, Layer::Reader))),
-    ("a second name", b"SH\x03\x01SG\x00\x00NM\x01\x01ANM\x01\x01BEN", 1, Some((6, 13, Layer::Reader))),
+    (
+        "the first number that is no step",
+        SHEET,
+        3,
+        Some((31, 3, Layer::Run)),
+    ),
+    (
+        "the last number",
+        SHEET,
+        65535,
+        Some((31, 65535, Layer::Run)),
+    ),
+    (
+        "the file's fault ahead of the step",
+        b"SH\x03\x01SG\x00\x00",
+        65535,
+        Some((1, 8, Layer::Reader)),
+    ),
+    (
+        "a second name",
+        b"SH\x03\x01SG\x00\x00NM\x01\x01ANM\x01\x01BEN",
+        1,
+        Some((6, 13, Layer::Reader)),
+    ),
 ];
 
 #[test]
@@ -100,12 +128,26 @@ fn no_name() -> Result<(), Fail> {
 
 fn kind(record: Record) -> &'static str {
     match record {
-        Record::Header { steps: _, signals: _ } => "header",
+        Record::Header {
+            steps: _,
+            signals: _,
+        } => "header",
         Record::Start { word: _ } => "start",
         Record::Effect { effect: _ } => "effect",
-        Record::Need { step: _, signal: _, a: _, b: _ } => "need",
-        Record::Pair { earlier: _, later: _ } => "pair",
-        Record::Link { need: _, contributors: _ } => "link",
+        Record::Need {
+            step: _,
+            signal: _,
+            a: _,
+            b: _,
+        } => "need",
+        Record::Pair {
+            earlier: _,
+            later: _,
+        } => "pair",
+        Record::Link {
+            need: _,
+            contributors: _,
+        } => "link",
         Record::Name { step: _, name: _ } => "name",
         Record::End => "end",
     }
@@ -133,8 +175,18 @@ fn records() -> Result<(), Fail> {
     for row in RECORDS.iter() {
         let found = match next_record(SHEET, row.0) {
             Ok((record, end)) => (kind(record), end),
-            Err(ReaderFault { cause: Cause::CutShort, place }) => ("fault 1", usize::from(place)),
-            Err(ReaderFault { cause: Cause::Mark, place }) => ("fault 2", usize::from(place)),
+            Err(
+                ReaderFault {
+                    cause: Cause::CutShort,
+                    place,
+                },
+            ) => ("fault 1", usize::from(place)),
+            Err(
+                ReaderFault {
+                    cause: Cause::Mark,
+                    place,
+                },
+            ) => ("fault 2", usize::from(place)),
             Err(_) => ("another fault", 0),
         };
         check_eq(found, (row.1, row.2))?;

@@ -10,7 +10,8 @@ use std::test::*;
 const HEAD: &[u8] = b"SH\x03\x01SG\x00\x00";
 
 // The small sheet with two needs. Its records begin at 0, 4, 8, 14, 22, 30, 35 and 40.
-const SMALL: &[u8] = b"SH\x03\x01SG\x00\x00EF\x01\x00\x00\x01ND\x01\x00\x00\x01\x00\x00ND\x02\x00\x00\x02\x00\x00LK\x00\x01\x00LK\x01\x01\x01EN";
+const SMALL: &[u8] =
+    b"SH\x03\x01SG\x00\x00EF\x01\x00\x00\x01ND\x01\x00\x00\x01\x00\x00ND\x02\x00\x00\x02\x00\x00LK\x00\x01\x00LK\x01\x01\x01EN";
 
 const AFTER_HEAD: [(&str, &[u8], u8, u16); 46] = [
     ("ends ahead of EN", b"", 1, 8),
@@ -40,23 +41,63 @@ const AFTER_HEAD: [(&str, &[u8], u8, u16); 46] = [
     ("PR from no step", b"PR\x03\x01EN", 4, 8),
     ("PR to no step", b"PR\x01\x03EN", 4, 8),
     ("LK for no need", b"LK\x00\x01\x00EN", 4, 8),
-    ("LK for a need that comes later", b"LK\x00\x01\x00ND\x01\x00\x00\x01\x00\x00EN", 4, 8),
-    ("LK by no step", b"ND\x01\x00\x00\x01\x00\x00LK\x00\x02\x00\x03EN", 4, 16),
+    (
+        "LK for a need that comes later",
+        b"LK\x00\x01\x00ND\x01\x00\x00\x01\x00\x00EN",
+        4,
+        8,
+    ),
+    (
+        "LK by no step",
+        b"ND\x01\x00\x00\x01\x00\x00LK\x00\x02\x00\x03EN",
+        4,
+        16,
+    ),
     ("NM of no step", b"NM\x03\x01AEN", 4, 8),
     ("EF on the start", b"EF\x00\x00\x00\x01EN", 5, 8),
     ("EF on the finish", b"EF\x02\x00\x00\x01EN", 5, 8),
     ("ND of the start", b"ND\x00\x00\x00\x01\x00\x00EN", 5, 8),
-    ("second EF for a step and signal", b"EF\x01\x00\x00\x01EF\x01\x00\x00\x02EN", 6, 14),
+    (
+        "second EF for a step and signal",
+        b"EF\x01\x00\x00\x01EF\x01\x00\x00\x02EN",
+        6,
+        14,
+    ),
     ("second NM for a step", b"NM\x01\x01ANM\x01\x01BEN", 6, 13),
-    ("second LK for a need", b"ND\x01\x00\x00\x01\x00\x00LK\x00\x01\x00LK\x00\x01\x00EN", 7, 21),
+    (
+        "second LK for a need",
+        b"ND\x01\x00\x00\x01\x00\x00LK\x00\x01\x00LK\x00\x01\x00EN",
+        7,
+        21,
+    ),
     ("a byte after EN", b"EN\x00", 9, 10),
     ("a record after EN", b"ENPR\x00\x01", 9, 10),
-    ("no signal ahead of the start", b"EF\x00\x01\x00\x01EN", 4, 8),
-    ("no signal ahead of the start's need", b"ND\x00\x01\x00\x01\x00\x00EN", 4, 8),
-    ("no step ahead of a second link", b"ND\x01\x00\x00\x01\x00\x00LK\x00\x01\x00LK\x00\x01\x03EN", 4, 21),
+    (
+        "no signal ahead of the start",
+        b"EF\x00\x01\x00\x01EN",
+        4,
+        8,
+    ),
+    (
+        "no signal ahead of the start's need",
+        b"ND\x00\x01\x00\x01\x00\x00EN",
+        4,
+        8,
+    ),
+    (
+        "no step ahead of a second link",
+        b"ND\x01\x00\x00\x01\x00\x00LK\x00\x01\x00LK\x00\x01\x03EN",
+        4,
+        21,
+    ),
     ("limits ahead of the rest", b"LK\x00\x41", 3, 8),
     ("fixed fields ahead of limits", b"NM\x01", 1, 8),
-    ("the first faulty record decides", b"EF\x00\x00\x00\x01PR\x03\x03EN", 5, 8),
+    (
+        "the first faulty record decides",
+        b"EF\x00\x00\x00\x01PR\x03\x03EN",
+        5,
+        8,
+    ),
     ("a fault ahead of a cut", b"PR\x03\x01P", 4, 8),
     ("a mark ahead of a cut", b"SG", 2, 8),
 ];
@@ -81,7 +122,12 @@ const WHOLE: [(&str, &[u8], u8, u16); 25] = [
     ("LK in place of SG", b"SH\x03\x01LK", 2, 4),
     ("NM in place of SG", b"SH\x03\x01NM", 2, 4),
     ("EN in place of SG", b"SH\x03\x01EN", 2, 4),
-    ("EN in place of the second SG", b"SH\x03\x02SG\x00\x00EN", 2, 8),
+    (
+        "EN in place of the second SG",
+        b"SH\x03\x02SG\x00\x00EN",
+        2,
+        8,
+    ),
     ("no step", b"SH\x00\x01", 3, 0),
     ("one step", b"SH\x01\x01", 3, 0),
     ("65 steps", b"SH\x41\x01", 3, 0),
@@ -146,7 +192,13 @@ fn add_copies(file: &mut Vec<u8>, one: &[u8], count: u16) -> Result<(), AllocErr
     Ok(())
 }
 
-const SIZES: [(u8, u8, Option<(u8, u16)>); 5] = [(2, 1, None), (64, 64, None), (1, 1, Some((3, 0))), (65, 1, Some((3, 0))), (2, 65, Some((3, 0)))];
+const SIZES: [(u8, u8, Option<(u8, u16)>); 5] = [
+    (2, 1, None),
+    (64, 64, None),
+    (1, 1, Some((3, 0))),
+    (65, 1, Some((3, 0))),
+    (2, 65, Some((3, 0))),
+];
 
 #[test]
 fn steps_and_signals(rt: LibcRuntime) -> Result<(), Fail> {
@@ -160,10 +212,31 @@ fn steps_and_signals(rt: LibcRuntime) -> Result<(), Fail> {
 
 // A record as often as it may come, and one more record: a count is tested after every other rule.
 const COUNTED: [(&str, &[u8], u16, &[u8], u8, u16); 4] = [
-    ("257 ND", b"ND\x01\x00\x00\x01\x00\x00", 256, b"ND\x01\x00\x00\x01\x00\x00EN", 8, 2056),
-    ("the start's need ahead of the count", b"ND\x01\x00\x00\x01\x00\x00", 256, b"ND\x00\x00\x00\x01\x00\x00EN", 5, 2056),
+    (
+        "257 ND",
+        b"ND\x01\x00\x00\x01\x00\x00",
+        256,
+        b"ND\x01\x00\x00\x01\x00\x00EN",
+        8,
+        2056,
+    ),
+    (
+        "the start's need ahead of the count",
+        b"ND\x01\x00\x00\x01\x00\x00",
+        256,
+        b"ND\x00\x00\x00\x01\x00\x00EN",
+        5,
+        2056,
+    ),
     ("513 PR", b"PR\x00\x01", 512, b"PR\x00\x01EN", 8, 2056),
-    ("no such step ahead of the count", b"PR\x00\x01", 512, b"PR\x03\x01EN", 4, 2056),
+    (
+        "no such step ahead of the count",
+        b"PR\x00\x01",
+        512,
+        b"PR\x03\x01EN",
+        4,
+        2056,
+    ),
 ];
 
 #[test]
@@ -180,7 +253,12 @@ fn counts(rt: LibcRuntime) -> Result<(), Fail> {
 // The header and 64 start words take 260 bytes, and 256 effects 1,536.
 const EFFECTS: [(&str, &[u8], u8, u16); 2] = [
     ("257 EF", b"EF\x05\x00\x00\x01EN", 8, 1796),
-    ("a repeat ahead of the count", b"EF\x01\x00\x00\x01EN", 6, 1796),
+    (
+        "a repeat ahead of the count",
+        b"EF\x01\x00\x00\x01EN",
+        6,
+        1796,
+    ),
 ];
 
 #[test]
@@ -195,7 +273,10 @@ fn effect_counts(rt: LibcRuntime) -> Result<(), Fail> {
 }
 
 // The small sheet with a record as often as said ahead of its EN, which stood at 40.
-const GROWN: [(&[u8], u16, u8, u16); 2] = [(b"PR\x07\x01", 1, 4, 40), (b"ND\x01\x00\x00\x01\x00\x00", 255, 8, 2072)];
+const GROWN: [(&[u8], u16, u8, u16); 2] = [
+    (b"PR\x07\x01", 1, 4, 40),
+    (b"ND\x01\x00\x00\x01\x00\x00", 255, 8, 2072),
+];
 
 #[test]
 fn small_sheet_and_more(rt: LibcRuntime) -> Result<(), Fail> {
@@ -269,5 +350,7 @@ fn longest(rt: LibcRuntime) -> Result<(), Fail> {
     file.push(0)?;
     check_eq(fault_of(rt.alloc(), file.as_slice())?, Some((9, 25094)))?;
     add_copies(&mut file, b"EN", 40000)?;
-    check_eq(fault_of(rt.alloc(), file.as_slice())?, Some((9, 25094))).note("however long the file goes on")
+    check_eq(fault_of(rt.alloc(), file.as_slice())?, Some((9, 25094))).note(
+        "however long the file goes on",
+    )
 }

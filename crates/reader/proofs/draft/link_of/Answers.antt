@@ -35,6 +35,6 @@ pub returns : need.returns
 returns c =
     link-members (c .new .result) (c .loop-step .set) (c .new .ensures)
     ∙ rising-same (has (c .loop-step .set)) (λ k. mem k (c .args .contributors .now))
-        (λ k h. or-false (has (c .loop-step .set) k)
-            ∙ sym (ap (λ (b : Bool). has (c .loop-step .set) k || b) (at-drop-all (mem k) (c .args .contributors .now) (c .loop-step .step-index) (omega arith)))
-            ∙ c .loop-step .inv k h)
+    (λ k h. or-false (has (c .loop-step .set) k)
+    ∙ sym (ap (λ (b : Bool). has (c .loop-step .set) k || b) (at-drop-all (mem k) (c .args .contributors .now) (c .loop-step .step-index) (omega arith)))
+    ∙ c .loop-step .inv k h)

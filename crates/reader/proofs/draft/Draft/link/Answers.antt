@@ -22,12 +22,12 @@ returns-then-at-len c =
     let held = getD-read items i x inside (c .index-mut .ensures .value) noHeldNeed in
     let old : getD (map needOf items) i noNeed ≡ needOf x = getD-map needOf items i noHeldNeed noNeed inside ∙ ap needOf (sym held) in
     let new : needOf (record { step = x .step; signal = x .signal; a = x .a; b = x .b; link = c .link-of .result }) ≡ linkedBy (c .args .contributors .now) (needOf x) =
-        λ j. record { step = x .step; signal = x .signal; a = x .a; b = x .b; link = c .link-of .ensures j } in
+    λ j. record { step = x .step; signal = x .signal; a = x .a; b = x .b; link = c .link-of .ensures j } in
     let needs : map needOf (set items i (record { step = x .step; signal = x .signal; a = x .a; b = x .b; link = c .link-of .result }))
-            ≡ set (map needOf items) i (linkedBy (c .args .contributors .now) (getD (map needOf items) i noNeed)) =
-        map-set needOf items i _ ∙ ap (λ (n : Need). set (map needOf items) i n) (new ∙ ap (linkedBy (c .args .contributors .now)) (sym old)) in
+    ≡ set (map needOf items) i (linkedBy (c .args .contributors .now) (getD (map needOf items) i noNeed)) =
+    map-set needOf items i _ ∙ ap (λ (n : Need). set (map needOf items) i n) (new ∙ ap (linkedBy (c .args .contributors .now)) (sym old)) in
     let moved = subst (λ (k : ℕ). map needOf (set items i (record { step = x .step; signal = x .signal; a = x .a; b = x .b; link = c .link-of .result }))
-            ≡ set (map needOf items) k (linkedBy (c .args .contributors .now) (getD (map needOf items) k noNeed))) (c .from-at .ensures) needs in
+    ≡ set (map needOf items) k (linkedBy (c .args .contributors .now) (getD (map needOf items) k noNeed))) (c .from-at .ensures) needs in
     let d = draftSheet (c .args .self .now) in
     λ j. record { steps = d .steps; starts = d .starts; effects = d .effects; needs = moved j; pairs = d .pairs }
 

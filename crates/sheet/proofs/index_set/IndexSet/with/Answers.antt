@@ -7,6 +7,6 @@ use Rattle.sheet.specs.Sets.{bit}
 use Rattle.sheet.proofs.Bits.{bit-more}
 use Rattle.sheet.proofs.index_set.IndexSet.with.Needs as need
 
-pub returns-then-index-lt64 : need.returns-then-index-lt64
-returns-then-index-lt64 c =
-    record { has = λ k h. rw (lt-ltb k 64 h) (bit-more (c .args .self .mask) (c .args .index) k (c .if-index-lt64 .taken)) }
+pub returns : need.returns
+returns c =
+    record { has = λ k h. rw (lt-ltb k 64 h) (bit-more (c .args .self .mask) (c .args .index) k (c .if-index-ge64 .left)) }
