@@ -1,8 +1,8 @@
 -- One record more of a walk, and how far it leads.
-use mathlib.Core.Path.{_≡_, refl, sym, ap, _∙_, subst}
+use mathlib.Core.Path.{_≡_, refl, ap, subst}
 use mathlib.Core.Bool.{true, false}
 use mathlib.Core.List.{List, [], _∷_}
-use Prim.Native.Nat.{ℕ, suc, _+_, _<_, _≤_}
+use Prim.Native.Nat.{ℕ, suc, _<_, _≤_}
 use native.Mathlib.Omega.{arith}
 use lib.ListN.{length}
 use Rattle.std.specs.declared.result.Result.the-variants.{Ok}
@@ -11,7 +11,7 @@ use Rattle.reader.specs.declared.ledger.Ledger.{Ledger}
 use Rattle.reader.specs.declared.record.Record.{Record}
 use Rattle.reader.specs.declared.record.Record.the-variants.{Header, Start, Effect, Need, Pair, Link, Name, End}
 use Rattle.reader.specs.Advance.{Advanced}
-use Rattle.reader.specs.Item.{Item, bytes, size, isEnd}
+use Rattle.reader.specs.Item.{Item, bytes, isEnd}
 use Rattle.reader.specs.Reading.{next, Progress, walk, going, ended, wholeWalk, sheetAfter, reading, nameAfter, naming}
 use Rattle.reader.specs.Said.{saidBy, sheetOf}
 use Rattle.reader.specs.View.{itemOf}

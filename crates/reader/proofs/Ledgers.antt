@@ -1,26 +1,20 @@
 -- What a ledger shows after one record more.
 use mathlib.Core.Path.{_≡_, refl, sym, ap, _∙_, subst}
-use mathlib.Core.Bool.{Bool, true, false, cond, not, _&&_, _||_}
+use mathlib.Core.Bool.{Bool, true, false, _&&_, _||_}
 use mathlib.Core.List.{List, [], _∷_, _++_}
-use mathlib.Core.Logic.{_⊎_, inl, inr}
-use Prim.Native.Nat.{ℕ, suc, _+_, _<_, _≤_}
+use mathlib.Core.Logic.{inl, inr}
+use Prim.Native.Nat.{ℕ, _+_, _<_}
 use native.Mathlib.Omega.{arith}
-use lib.Dec.{eqb, ltb, leb}
+use lib.Dec.{eqb}
 use lib.ListN.{length, getD, set}
 use lib.Seq.{getD-set-same, getD-set-other}
-use Rattle.std.proofs.shelf.Lists.{length-push}
-use Rattle.std.proofs.shelf.Tests.{cases-eq, eq-eqb, ne-eqb, and-from, or-cases}
+use Rattle.std.proofs.shelf.Tests.{cases-eq, eq-eqb, ne-eqb}
 use Rattle.std.proofs.shelf.Ways.{tells}
-use Rattle.std.specs.declared.option.Option.{Option}
 use Rattle.std.specs.declared.option.Option.the-variants.{Some, None}
 use Rattle.sheet.specs.declared.index_set.IndexSet.{IndexSet}
 use Rattle.sheet.specs.declared.parts.Effect.{Effect}
 use Rattle.sheet.specs.Sets.{has, mem, emptySet}
-use Rattle.reader.specs.declared.ledger.Ledger.{Ledger}
-use Rattle.reader.specs.Item.{Item, header, start, effect, need, pair, link, name, end}
 use Rattle.reader.specs.Lawful.{sets}
-use Rattle.reader.specs.Said.{Said, said}
-use Rattle.reader.specs.Shows.{Shows}
 
 eqb-flip : (a b : ℕ) → eqb a b ≡ eqb b a
 eqb-flip a b = grind (arith, tells)

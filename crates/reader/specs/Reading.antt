@@ -5,7 +5,7 @@
 --   reading f         the sheet that the file says, or its fault
 --   nameIn past w     the name of the step w and its place
 --   naming f w        the name of a step, as a place and bytes, or nothing, or the fault
-use mathlib.Core.Bool.{Bool, true, cond}
+use mathlib.Core.Bool.{cond}
 use mathlib.Core.List.{List, [], _∷_}
 use Prim.Native.Nat.{ℕ, zero, suc, _+_}
 use lib.Dec.{eqb, ltb}

@@ -1,12 +1,10 @@
 // The record at a place of a file: its mark, its fields, their limits, the rest of its bytes.
 ghost use mathlib.Core.Path.{_≡_};
-ghost use mathlib.Core.Bool.{cond};
-ghost use Prim.Native.Nat.{_+_, _*_, _<_, _≤_};
-ghost use lib.Dec.{leb};
-ghost use lib.ListN.{length, getD};
+ghost use Prim.Native.Nat.{_+_, _*_, _<_};
+ghost use lib.ListN.{length};
 ghost use Rattle.std.specs.declared.result.Result.the-variants.{Ok, Err};
 ghost use Rattle.reader.specs.declared.record.Mark.the-variants as mark;
-ghost use Rattle.reader.specs.Shape.{fault, whole, markOf, known, markAt, partAt, bodyAt, recordAt, wordAt};
+ghost use Rattle.reader.specs.Shape.{whole, markOf, markAt, partAt, bodyAt, recordAt, wordAt};
 ghost use Rattle.reader.specs.View.{shown, partShown, Placed};
 use crate::record::Mark;
 use crate::record::Part;

@@ -1,8 +1,8 @@
 -- The limits of a sheet as the code's own lists keep them, and as the model does.
 use mathlib.Core.Path.{_≡_, refl, sym, ap, _∙_, subst}
-use mathlib.Core.Bool.{Bool, true, false, cond, _||_, _&&_}
+use mathlib.Core.Bool.{Bool, true, false, cond, _&&_}
 use mathlib.Core.List.{List, [], _∷_, map}
-use mathlib.Core.Logic.{_⊎_, inl, inr}
+use mathlib.Core.Logic.{inl, inr}
 use Prim.Native.Nat.{ℕ, zero, suc, _+_, _<_, _≤_}
 use native.Mathlib.Omega.{arith}
 use lib.Dec.{eqb, ltb}
@@ -12,7 +12,7 @@ use Rattle.std.specs.shelf.Lists.{kept-by}
 use Rattle.std.specs.declared.option.Option.{Option}
 use Rattle.std.specs.declared.option.Option.the-variants.{Some, None}
 use Rattle.std.proofs.shelf.Lists.{getD-map, length-map}
-use Rattle.std.proofs.shelf.Tests.{cases-eq, eq-eqb, ne-eqb, eqb-true, ltb-true, and-parts, or-cases, or-left, or-right, both-ways, false≢true}
+use Rattle.std.proofs.shelf.Tests.{cases-eq, eq-eqb, eqb-true, ltb-true, and-parts, or-cases, or-left, or-right, false≢true}
 use Rattle.sheet.specs.declared.parts.Effect.{Effect}
 use Rattle.sheet.specs.declared.parts.Link.{Link}
 use Rattle.sheet.specs.declared.parts.Need.{Need as HeldNeed}

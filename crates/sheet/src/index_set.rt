@@ -1,9 +1,9 @@
 // A set of numbers below 64: steps or signals.
 ghost use mathlib.Core.Path.{_≡_};
-ghost use mathlib.Core.Bool.{Bool, _||_};
+ghost use mathlib.Core.Bool.{_||_};
 ghost use Prim.Native.Nat.{ℕ, _<_};
 ghost use lib.Dec.{eqb};
-ghost use Rattle.sheet.specs.Sets.{has, members, emptySet, rising};
+ghost use Rattle.sheet.specs.Sets.{has, emptySet};
 
 #[derive(Clone, Copy)]
 pub struct IndexSet {

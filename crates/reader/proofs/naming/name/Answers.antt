@@ -1,16 +1,12 @@
-use mathlib.Core.Path.{_≡_, refl, sym, ap, _∙_, subst}
-use mathlib.Core.Bool.{Bool, cond}
+use mathlib.Core.Path.{refl, sym, ap, _∙_, subst}
 use mathlib.Core.List.{[], _∷_}
 use Prim.Native.Nat.{ℕ, suc, _<_, _≤_}
 use native.Mathlib.Omega.{arith}
-use lib.Dec.{ltb}
 use Rattle.std.specs.declared.option.Option.the-variants.{Some, None}
 use Rattle.std.specs.declared.result.Result.the-variants.{Ok}
 use Rattle.std.proofs.shelf.Results.{err-from-errBy}
 use Rattle.std.proofs.shelf.Tests.{cond-true, cond-false, lt-ltb, le-ltb}
-use Rattle.reader.specs.Item.{size}
 use Rattle.reader.specs.Reading.{ended, faulty}
-use Rattle.reader.specs.Results.{named}
 use Rattle.reader.specs.Said.{saidBy}
 use Rattle.reader.specs.View.{itemOf, PlacedAt}
 use Rattle.reader.proofs.Advancing.{naming-by, walk-begins, further, answer-at}

@@ -1,8 +1,8 @@
-use mathlib.Core.Path.{_≡_, sym, ap, _∙_, subst}
-use mathlib.Core.List.{List, [], _∷_, _++_, map}
+use mathlib.Core.Path.{_≡_, sym, ap, _∙_}
+use mathlib.Core.List.{[], _∷_, _++_, map}
 use Rattle.std.specs.Of.Vec.{vec-items}
 use Rattle.std.proofs.shelf.Lists.{map-push}
-use Rattle.sheet.specs.Model.{Need, Sheet, needOf}
+use Rattle.sheet.specs.Model.{Sheet, needOf}
 use Rattle.reader.specs.declared.record.Record.{Record}
 use Rattle.reader.specs.Draft.{draftSheet}
 use Rattle.reader.specs.Said.{said, sheetOf, open-need}

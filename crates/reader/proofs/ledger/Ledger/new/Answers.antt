@@ -1,6 +1,5 @@
-use mathlib.Core.Path.{_≡_, refl, sym, ap, _∙_}
+use mathlib.Core.Path.{refl, ap, _∙_}
 use mathlib.Core.Bool.{false}
-use native.Mathlib.Omega.{arith}
 use Rattle.std.proofs.shelf.Lists.{getD-replicate}
 use Rattle.sheet.specs.declared.index_set.IndexSet.{IndexSet}
 use Rattle.sheet.specs.Sets.{has, emptySet}

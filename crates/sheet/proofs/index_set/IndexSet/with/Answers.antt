@@ -1,9 +1,4 @@
-use mathlib.Core.Path.{_≡_, sym, ap, _∙_}
-use mathlib.Core.Bool.{Bool, _&&_, _||_}
-use lib.Dec.{ltb, eqb}
-use native.Mathlib.Omega.{arith}
-use Rattle.std.proofs.shelf.Tests.{lt-ltb, ne-eqb}
-use Rattle.sheet.specs.Sets.{bit}
+use Rattle.std.proofs.shelf.Tests.{lt-ltb}
 use Rattle.sheet.proofs.Bits.{bit-more}
 use Rattle.sheet.proofs.index_set.IndexSet.with.Needs as need
 

@@ -1,8 +1,6 @@
 use Prim.Native.Nat.{ℕ, _<_}
-use mathlib.Core.Path.{_≡_}
-use mathlib.Core.Bool.{true}
 use lib.ListN.{getD}
-use Rattle.sheet.specs.Fit.{EffectFits, SameTarget, NeedFits, PairFits, linkHas, noEffect, noNeed, noPair}
+use Rattle.sheet.specs.Fit.{EffectFits, noEffect}
 use Rattle.sheet.proofs.sheet.building.effects_fit.Given as given
 
 abbrev pub Inv-loop-effect : given.InvT-loop-effect

@@ -1,9 +1,8 @@
 use Prim.Native.Nat.{ℕ, _<_}
 use mathlib.Core.Path.{_≡_}
 use mathlib.Core.Bool.{true}
-use lib.ListN.{getD}
 use Rattle.std.specs.declared.option.Option.the-variants.{Some}
-use Rattle.sheet.specs.Fit.{EffectFits, SameTarget, NeedFits, PairFits, linkHas, noEffect, noNeed, noPair}
+use Rattle.sheet.specs.Fit.{linkHas}
 use Rattle.sheet.proofs.sheet.building.link_fits.Given as given
 
 abbrev pub Inv-loop-j : given.InvT-loop-j

@@ -1,5 +1,4 @@
-use mathlib.Core.Path.{_≡_, sym, ap, _∙_}
-use mathlib.Core.Bool.{true}
+use mathlib.Core.Path.{sym, ap, _∙_}
 use Rattle.std.proofs.shelf.Lists.{getD-read}
 use Rattle.sheet.specs.declared.parts.Need.{Need}
 use Rattle.sheet.specs.Fit.{linkHas, noNeed}

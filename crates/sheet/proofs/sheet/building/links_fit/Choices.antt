@@ -2,7 +2,7 @@ use Prim.Native.Nat.{ℕ, _<_}
 use mathlib.Core.Path.{_≡_}
 use mathlib.Core.Bool.{true}
 use lib.ListN.{getD}
-use Rattle.sheet.specs.Fit.{EffectFits, SameTarget, NeedFits, PairFits, linkHas, noEffect, noNeed, noPair}
+use Rattle.sheet.specs.Fit.{linkHas, noNeed}
 use Rattle.sheet.proofs.sheet.building.links_fit.Given as given
 
 abbrev pub Inv-loop-need : given.InvT-loop-need

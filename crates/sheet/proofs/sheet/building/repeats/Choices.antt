@@ -1,8 +1,6 @@
 use Prim.Native.Nat.{ℕ, _<_}
-use mathlib.Core.Path.{_≡_}
-use mathlib.Core.Bool.{true}
 use lib.ListN.{getD}
-use Rattle.sheet.specs.Fit.{EffectFits, SameTarget, NeedFits, PairFits, linkHas, noEffect, noNeed, noPair}
+use Rattle.sheet.specs.Fit.{SameTarget, noEffect}
 use Rattle.sheet.proofs.sheet.building.repeats.Given as given
 
 abbrev pub Inv-loop-j : given.InvT-loop-j
