@@ -15,15 +15,10 @@ use Rattle.sheet.specs.declared.index_set.IndexSet.{IndexSet}
 use Rattle.sheet.specs.declared.parts.Effect.{Effect}
 use Rattle.sheet.specs.Sets.{has, mem, emptySet}
 use Rattle.reader.specs.Lawful.{sets}
+use Rattle.reader.proofs.Ors.{or-swap}
 
 eqb-flip : (a b : ℕ) → eqb a b ≡ eqb b a
 eqb-flip a b = grind (arith, tells)
-
-or-swap : (x y z : Bool) → (x || (y || z)) ≡ (y || (x || z))
-or-swap true true z = refl
-or-swap true false z = refl
-or-swap false true z = refl
-or-swap false false z = refl
 
 -- one effect more sets its own signal at its own step
 pub sets-push : (es : List Effect) (e : Effect) (w x : ℕ) → sets (es ++ e ∷ []) w x ≡ ((eqb (e .step) w && eqb (e .signal) x) || sets es w x)

@@ -7,6 +7,7 @@ pub mod Ledgers
 pub mod Limited
 pub mod Named
 pub mod Nexts
+pub mod Ors
 pub mod Room
 pub mod Walking
 pub mod Writing

@@ -1,5 +1,5 @@
 -- What stands in the bytes of a record, and what is read from them.
-use mathlib.Core.Path.{_≡_, refl, sym, ap, _∙_}
+use mathlib.Core.Path.{_≡_, refl, sym, ap, _∙_, subst}
 use mathlib.Core.Bool.{Bool, true, false, cond, _&&_}
 use mathlib.Core.List.{List, [], _∷_, _++_}
 use Prim.Native.Nat.{ℕ, suc, _+_, _*_, _/_, _%_, _<_, _≤_}
@@ -18,12 +18,12 @@ use Rattle.sheet.specs.declared.parts.Effect.{Effect}
 use Rattle.reader.specs.declared.record.Mark.{Mark}
 use Rattle.reader.specs.declared.record.Mark.the-variants as mark
 use Rattle.reader.specs.Item.{Item, header, start, effect, need, pair, link, name, end, kind, letters, word, fields, bytes}
-use Rattle.reader.specs.Law.{Bytes}
+use Rattle.reader.specs.Law.{Bytes, Standing, Records-exactly}
 use Rattle.reader.specs.Lawful.{stands, objection, wellFormed, Admissible}
 use Rattle.reader.specs.Reading.{refusedBy, admitted, placed, next}
 use Rattle.reader.specs.Said.{Said}
-use Rattle.reader.specs.Shape.{onOk, between, byteAt, wordAt, part, markOf, known, markAt, partAt, bodyAt}
-use Rattle.reader.proofs.Walking.{Answers, FaultAt, Marked, Read, also-answers, both-answers, whole-answers, within-answers, then-answers, body-answers, next-through, length-part, two-letters}
+use Rattle.reader.specs.Shape.{onOk, between, byteAt, wordAt, part, markOf, known, markAt, partAt, bodyAt, recordAt}
+use Rattle.reader.proofs.Walking.{Answers, FaultAt, Marked, Body, Read, mark-answers, also-answers, both-answers, whole-answers, within-answers, then-answers, body-answers, next-through, length-part, two-letters}
 
 -- the letters of a mark are its mark's
 letters-mark : (m : Mark) (l : List ℕ) → markOf (getD (letters m ++ l) 0 0) (getD (letters m ++ l) 1 0) ≡ Some m
@@ -99,7 +99,7 @@ module _ (file : List ℕ) (p : ℕ) (x : Item) (back : List ℕ) (here : drop p
   after-record = sym (drop-drop (length (bytes x)) p file) ∙ ap (drop (length (bytes x))) here ∙ drop-at (bytes x) back _ refl
 
   -- its mark is read
-  mark-reads : markAt file p ≡ Ok (kind x)
+  pub mark-reads : markAt file p ≡ Ok (kind x)
   mark-reads =
       let first : byteAt file p ≡ getD (bytes x ++ back) 0 0 = ap (byteAt file) (sym (add-zero p)) ∙ byte 0 in
       cond-true (leb (p + 2) (length file)) _ _ (le-leb (p + 2) (length file) (omega (arith, room, two-letters x)))
@@ -115,7 +115,7 @@ part-reads file p most bs back count after inside e =
     rw (count, e, le-leb (p + 4) (length file) (omega arith), le-leb (p + 4 + length bs) (length file) inside, after, take-at bs back (length bs) refl)
 
 -- the fields of a record are read
-body-reads : (file : List ℕ) (p : ℕ) (x : Item) (back : List ℕ) → drop p file ≡ bytes x ++ back → wellFormed x ≡ true
+pub body-reads : (file : List ℕ) (p : ℕ) (x : Item) (back : List ℕ) → drop p file ≡ bytes x ++ back → wellFormed x ≡ true
     → bodyAt file p (kind x) ≡ Ok (x, p + length (bytes x))
 body-reads file p (header n v) back here e =
     let b = byte file p (header n v) back here in
@@ -231,19 +231,49 @@ module _ (file : List ℕ) (p : ℕ) where
 abbrev pub Stands : List ℕ → ℕ → Item × ℕ → Type 0
 Stands file p y = drop p file ≡ bytes (y .0) ++ drop (y .1) file
 
+-- the letters of a mark and the fields behind them are the bytes of a record
+joins : (file : List ℕ) (p : ℕ) (m : Mark) → Marked file p m → (y : Item × ℕ) → kind (y .0) ≡ m → Spelled file p y → Stands file p y
+joins file p m h y k g =
+    letters-spelled file p m h
+    ∙ ap (λ (l : List ℕ). letters m ++ l) g
+    ∙ ap (λ (n : Mark). letters n ++ (fields (y .0) ++ drop (y .1) file)) (sym k)
+    ∙ sym (append-assoc (letters (kind (y .0))) (fields (y .0)) (drop (y .1) file))
+
+-- a record that is read at a mark, with its limits and its bytes
+abbrev Whole : List ℕ → ℕ → Mark → Item × ℕ → Type 0
+Whole file p m y = Body file p m (y .0) (y .1) × Stands file p y
+
+whole-body : (file : List ℕ) → Bytes file → (p : ℕ) (m : Mark) → Marked file p m → Answers (Whole file p m) (FaultAt p) (bodyAt file p m)
+whole-body file small p m h =
+    also-answers (λ (y : Item × ℕ). Read file p (h .0) m y × Spelled file p y) (Whole file p m) (FaultAt p) (bodyAt file p m)
+    (λ y b. (b .0, joins file p m h y (b .0 .marked) (b .1)))
+    (both-answers (Read file p (h .0) m) (Spelled file p) (FaultAt p) (bodyAt file p m) (body-answers file p (h .0) m) (body-spelled file p small m))
+
 -- a record that is read is spelled there
 pub next-spelled : (file : List ℕ) → Bytes file → (s : Said) (p : ℕ) → Answers (Stands file p) (FaultAt p) (next file s p)
-next-spelled file small s p = next-through file s p (Stands file p) (λ m h e. at-mark m h)
-  where
-    joins : (m : Mark) → Marked file p m → (y : Item × ℕ) → kind (y .0) ≡ m → Spelled file p y → Stands file p y
-    joins m h y k g =
-        letters-spelled file p m h
-        ∙ ap (λ (l : List ℕ). letters m ++ l) g
-        ∙ ap (λ (n : Mark). letters n ++ (fields (y .0) ++ drop (y .1) file)) (sym k)
-        ∙ sym (append-assoc (letters (kind (y .0))) (fields (y .0)) (drop (y .1) file))
+next-spelled file small s p =
+    next-through file s p (Stands file p)
+    (λ m h e. also-answers (Whole file p m) (λ (y : Item × ℕ). objection s (y .0) ≡ None → Stands file p y) (FaultAt p) (bodyAt file p m)
+    (λ y b a. b .1) (whole-body file small p m h))
 
-    at-mark : (m : Mark) → Marked file p m → Answers (λ (y : Item × ℕ). objection s (y .0) ≡ None → Stands file p y) (FaultAt p) (bodyAt file p m)
-    at-mark m h =
-        also-answers (λ (y : Item × ℕ). Read file p (h .0) m y × Spelled file p y) (λ (y : Item × ℕ). objection s (y .0) ≡ None → Stands file p y) (FaultAt p) (bodyAt file p m)
-        (λ y b a. joins m h y (b .0 .marked) (b .1))
-        (both-answers (Read file p (h .0) m) (Spelled file p) (FaultAt p) (bodyAt file p m) (body-answers file p (h .0) m) (body-spelled file p small m))
+-- a record is read exactly where it stands
+abbrev Stood : List ℕ → ℕ → Item × ℕ → Type 0
+Stood file p y = Standing file p (y .0) (y .1)
+
+standing : (file : List ℕ) (p : ℕ) (m : Mark) (y : Item × ℕ) → Whole file p m y → Stood file p y
+standing file p m y b = record { formed = b .0 .formed; after = b .0 .after; here = b .1 }
+
+pub records-exactly : Records-exactly
+records-exactly file small p x q = (stands-there, λ t. reads-there t)
+  where
+    stands-there : recordAt file p ≡ Ok (x, q) → Standing file p x q
+    stands-there e =
+        subst (Answers (Stood file p) (FaultAt p)) e
+        (then-answers (Stood file p) p (Marked file p) (markAt file p) (bodyAt file p) (mark-answers file p)
+        (λ m h. also-answers (Whole file p m) (Stood file p) (FaultAt p) (bodyAt file p m) (standing file p m) (whole-body file small p m h)))
+
+    reads-there : Standing file p x q → recordAt file p ≡ Ok (x, q)
+    reads-there t =
+        ap (λ (r : Result Mark ReaderFault). onOk r (bodyAt file p)) (mark-reads file p x (drop q file) (t .here))
+        ∙ body-reads file p x (drop q file) (t .here) (t .formed)
+        ∙ ap (λ (n : ℕ). Ok (x, n)) (sym (t .after))

@@ -3,6 +3,7 @@
 --   kind x        the mark that it begins with
 --   letters m     the two letters of a mark
 --   word w        a word, high byte first
+--   fields x      the bytes after the mark
 --   bytes x       the bytes of a record
 --   size past     how many bytes a list of records takes
 --   isEnd x       the record ends the file

@@ -1,7 +1,8 @@
 -- What `read` and `name` answer.
 --   Starved f     a record that adds to the sheet was read, and no fault came up to it
 --   ReadAs f r    the answer r of `read` for the file f: the sheet that it says, its fault, or want of memory
---   named r       the answer of `name`, a part as its place and its bytes
+--   partOf o      a part as its place and its bytes
+--   named r       the answer of `name`, with its part so
 use mathlib.Core.Path.{_≡_}
 use mathlib.Core.Bool.{true}
 use mathlib.Core.List.{List, _∷_}

@@ -4,6 +4,7 @@
 --   said s x      what is said with one record more
 --   saidBy past   what a list of records says, the newest first
 --   sheetOf s     the sheet that is said
+--   open-need     a need without a link
 --   linkedBy cs n the need n with these contributors
 use mathlib.Core.List.{List, [], _∷_, _++_}
 use Prim.Native.Nat.{ℕ}

@@ -1,10 +1,14 @@
 -- The record at a place of a file: its mark, its fields, their limits, the rest of its bytes.
 --   fault c p         a fault of the file, by its cause and its place
+--   onOk r f          f of what r answers, or the fault of r
 --   whole f p q r     r, unless the file f ends ahead of the place q: then the record at p is cut short
 --   within ok p r     r, unless a limit is broken
+--   between a x b     x is a to b
+--   byteAt f p        the byte at a place
 --   wordAt f p        the word at a place, high byte first
 --   part f p k        the k bytes from a place on
 --   markOf a b        the mark with these two letters
+--   known p o         the mark, or the fault of an unknown one
 --   markAt f p        the mark at a place
 --   partAt f p most   the place and the bytes of the part whose length stands three bytes on from the mark at p
 --   bodyAt f p m      the record at a place that begins with the mark m, and the place after it

@@ -1,9 +1,9 @@
 -- What a `Record` of the code stands for.
 --   itemOf r      the record as a value
---   asItem x      the record with the place after it
---   shown r       the same of what the record reader answers
+--   shown r       the same of what the record reader answers, with the place after the record
 --   partShown r   the place and the bytes of a part
---   Placed p r    the parts that a record hands out lie behind its fixed fields, four bytes on from its mark
+--   PlacedAt p r  the parts of the record r at the place p begin four bytes on from its mark
+--   Placed p r    the same of what the record reader answers
 use mathlib.Core.Path.{_≡_}
 use mathlib.Core.List.{List}
 use Prim.Native.Nat.{ℕ, _+_}

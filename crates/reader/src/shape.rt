@@ -4,6 +4,7 @@ ghost use Prim.Native.Nat.{_+_, _*_, _<_};
 ghost use lib.ListN.{length};
 ghost use Rattle.std.specs.declared.result.Result.the-variants.{Ok, Err};
 ghost use Rattle.reader.specs.declared.record.Mark.the-variants as mark;
+ghost use Rattle.reader.specs.Law.{Records-exactly};
 ghost use Rattle.reader.specs.Shape.{whole, markOf, markAt, partAt, bodyAt, recordAt, wordAt};
 ghost use Rattle.reader.specs.View.{shown, partShown, Placed};
 use crate::record::Mark;
@@ -215,6 +216,7 @@ pub(crate) fn body_at<'a>(
 pub fn next_record<'a>(file: &'a [u8], at: u16) -> Result<(Record<'a>, usize), ReaderFault>
     ensures value { λ r. ⌜ shown r ≡ recordAt (now (file .entry)) at ⌝ }
     ensures places { λ r. ⌜ Placed at r ⌝ }
+    ensures exact { λ _. ⌜ Records-exactly ⌝ }
 {
     let mark = mark_at(file, at)?;
     body_at(file, at, mark)

@@ -17,7 +17,7 @@ use Rattle.sheet.specs.declared.parts.Effect.{Effect}
 use Rattle.sheet.specs.declared.parts.Link.{Link}
 use Rattle.sheet.specs.declared.parts.Need.{Need as HeldNeed}
 use Rattle.sheet.specs.declared.parts.Pair.{Pair}
-use Rattle.sheet.specs.Fit.{NeedFits, linkHas, noNeed as noHeldNeed}
+use Rattle.sheet.specs.Fit.{NeedsFit, LinksFit, linkHas, noNeed as noHeldNeed}
 use Rattle.sheet.specs.Limits.{Limits, noNeed}
 use Rattle.sheet.specs.Model.{Need, needOf, linkOf, modelOf}
 use Rattle.sheet.specs.Sets.{bit, has, mem, members, rising}
@@ -74,15 +74,13 @@ module _ (n : ℕ) (starts : List ℕ) (effects : List Effect) (needs : List Hel
   long : length (map needOf needs) ≡ length needs
   long = length-map needs needOf
 
-  pub held-needs : Limits (modelOf n starts effects needs pairs)
-      → (k : ℕ) → k < length needs → NeedFits n (length starts) (getD needs k noHeldNeed .step) (getD needs k noHeldNeed .signal)
+  pub held-needs : Limits (modelOf n starts effects needs pairs) → NeedsFit n (length starts) needs
   held-needs limits k h =
       let fit = limits .needs-fit k (omega (arith, long)) in
       let step = ap (λ (x : Need). x .step) (at k h) in
       let signal = ap (λ (x : Need). x .signal) (at k h) in
       omega arith
 
-  pub held-links : Limits (modelOf n starts effects needs pairs)
-      → (k j : ℕ) → k < length needs → linkHas (getD needs k noHeldNeed .link) j ≡ true → j < n
+  pub held-links : Limits (modelOf n starts effects needs pairs) → LinksFit n needs
   held-links limits k j h e =
       limits .links-fit k j (omega (arith, long)) (ap (λ (x : Need). mem j (x .link)) (at k h) ∙ contributes (getD needs k noHeldNeed .link) j e)

@@ -2,6 +2,8 @@
 --   numberOf f    its number
 --   placeOf f     its place, at most 16 bits
 --   layerOf f     the layer that gave it
+--   causeNumber, runNumber, plantNumber   the number, layer by layer
+--   runPlace, plantPlace                  the place, layer by layer
 --   flawPlace f   the step of a circle, the need of any other flaw
 use Prim.Native.Nat.{ℕ}
 use Rattle.sheet.specs.declared.verdict.Flaw.{Flaw}

@@ -6,7 +6,7 @@ ghost use lib.ListN.{length, getD};
 ghost use Rattle.std.specs.Of.Vec.{vec-items};
 ghost use Rattle.std.specs.Options.{Cases};
 ghost use Rattle.std.specs.Orderings.{When};
-ghost use Rattle.sheet.specs.Fit.{EffectFits, SameTarget, NeedFits, PairFits, linkHas, noEffect, noNeed, noPair};
+ghost use Rattle.sheet.specs.Fit.{EffectsFit, EffectsSingle, NeedsFit, LinksFit, PairsFit, SameTarget, Tells, linkHas, noEffect};
 ghost use Rattle.sheet.specs.Model.{modelOf};
 ghost use Rattle.sheet.specs.View.{model};
 ghost use Rattle.sheet.specs.Limits.{Limits};
@@ -17,9 +17,7 @@ use crate::parts::Pair;
 use crate::sheet::Sheet;
 
 fn effects_fit(effects: &[Effect], steps: u8, signals: usize) -> bool
-    ensures { λ r. ⌜ When r
-        ((k : ℕ) → k < length (now (effects .entry)) → EffectFits steps signals (getD (now (effects .entry)) k noEffect))
-        (((k : ℕ) → k < length (now (effects .entry)) → EffectFits steps signals (getD (now (effects .entry)) k noEffect)) → ⊥) ⌝ }
+    ensures { λ r. ⌜ Tells r (EffectsFit steps signals (now (effects .entry))) ⌝ }
 {
     for effect in effects {
         if effect.step == 0
@@ -48,9 +46,7 @@ fn repeats(effects: &[Effect], at: usize) -> bool
 }
 
 fn effects_single(effects: &[Effect]) -> bool
-    ensures { λ r. ⌜ When r
-        ((j k : ℕ) → j < k → k < length (now (effects .entry)) → SameTarget (getD (now (effects .entry)) j noEffect) (getD (now (effects .entry)) k noEffect) → ⊥)
-        (((j k : ℕ) → j < k → k < length (now (effects .entry)) → SameTarget (getD (now (effects .entry)) j noEffect) (getD (now (effects .entry)) k noEffect) → ⊥) → ⊥) ⌝ }
+    ensures { λ r. ⌜ Tells r (EffectsSingle (now (effects .entry))) ⌝ }
 {
     for k in 0..effects.len() {
         if repeats(effects, k) {
@@ -61,9 +57,7 @@ fn effects_single(effects: &[Effect]) -> bool
 }
 
 fn needs_fit(needs: &[Need], steps: u8, signals: usize) -> bool
-    ensures { λ r. ⌜ When r
-        ((k : ℕ) → k < length (now (needs .entry)) → NeedFits steps signals (getD (now (needs .entry)) k noNeed .step) (getD (now (needs .entry)) k noNeed .signal))
-        (((k : ℕ) → k < length (now (needs .entry)) → NeedFits steps signals (getD (now (needs .entry)) k noNeed .step) (getD (now (needs .entry)) k noNeed .signal)) → ⊥) ⌝ }
+    ensures { λ r. ⌜ Tells r (NeedsFit steps signals (now (needs .entry))) ⌝ }
 {
     for need in needs {
         if need.step == 0 || need.step >= steps || usize::from(need.signal) >= signals {
@@ -74,9 +68,7 @@ fn needs_fit(needs: &[Need], steps: u8, signals: usize) -> bool
 }
 
 fn link_fits(link: Option<Link>, steps: u8) -> bool
-    ensures { λ r. ⌜ When r
-        ((j : ℕ) → linkHas link j ≡ true → j < steps)
-        (((j : ℕ) → linkHas link j ≡ true → j < steps) → ⊥) ⌝ }
+    ensures { λ r. ⌜ Tells r ((j : ℕ) → linkHas link j ≡ true → j < steps) ⌝ }
 {
     let Some(link) = link else {
         return true;
@@ -90,9 +82,7 @@ fn link_fits(link: Option<Link>, steps: u8) -> bool
 }
 
 fn links_fit(needs: &[Need], steps: u8) -> bool
-    ensures { λ r. ⌜ When r
-        ((k j : ℕ) → k < length (now (needs .entry)) → linkHas (getD (now (needs .entry)) k noNeed .link) j ≡ true → j < steps)
-        (((k j : ℕ) → k < length (now (needs .entry)) → linkHas (getD (now (needs .entry)) k noNeed .link) j ≡ true → j < steps) → ⊥) ⌝ }
+    ensures { λ r. ⌜ Tells r (LinksFit steps (now (needs .entry))) ⌝ }
 {
     for need in needs {
         if !link_fits(need.link, steps) {
@@ -103,9 +93,7 @@ fn links_fit(needs: &[Need], steps: u8) -> bool
 }
 
 fn pairs_fit(pairs: &[Pair], steps: u8) -> bool
-    ensures { λ r. ⌜ When r
-        ((k : ℕ) → k < length (now (pairs .entry)) → PairFits steps (getD (now (pairs .entry)) k noPair))
-        (((k : ℕ) → k < length (now (pairs .entry)) → PairFits steps (getD (now (pairs .entry)) k noPair)) → ⊥) ⌝ }
+    ensures { λ r. ⌜ Tells r (PairsFit steps (now (pairs .entry))) ⌝ }
 {
     for pair in pairs {
         if pair.earlier >= steps || pair.later >= steps {

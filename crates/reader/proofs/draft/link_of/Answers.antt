@@ -1,5 +1,5 @@
-use mathlib.Core.Path.{_≡_, refl, sym, ap, _∙_}
-use mathlib.Core.Bool.{Bool, true, false, _||_}
+use mathlib.Core.Path.{_≡_, sym, ap, _∙_}
+use mathlib.Core.Bool.{Bool, _||_}
 use Prim.Native.Nat.{_+_}
 use native.Mathlib.Omega.{arith}
 use lib.Dec.{eqb}
@@ -8,17 +8,8 @@ use Rattle.std.proofs.shelf.Lists.{at-drop-more, at-drop-all}
 use Rattle.sheet.specs.Sets.{has, mem}
 use Rattle.sheet.proofs.Bits.{rising-same}
 use Rattle.sheet.proofs.Keeping.{link-members}
+use Rattle.reader.proofs.Ors.{or-shift, or-false}
 use Rattle.reader.proofs.draft.link_of.Needs as need
-
-or-shift : (x y z : Bool) → ((x || y) || z) ≡ (y || (x || z))
-or-shift true true z = refl
-or-shift true false z = refl
-or-shift false true z = refl
-or-shift false false z = refl
-
-or-false : (x : Bool) → x ≡ (x || false)
-or-false true = refl
-or-false false = refl
 
 pub loop-step-again : need.loop-step-again
 loop-step-again c k h =

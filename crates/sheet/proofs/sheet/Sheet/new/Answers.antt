@@ -1,13 +1,9 @@
 use mathlib.Core.Path.{_≡_, sym, subst, _∙_}
-use mathlib.Core.Bool.{true}
-use mathlib.Core.List.{List}
-use Prim.Native.Nat.{ℕ, _<_}
 use native.Mathlib.Omega.{arith}
-use lib.ListN.{length, getD}
+use lib.ListN.{length}
 use Rattle.std.specs.Of.Vec.{vec-items}
 use Rattle.std.proofs.shelf.Lists.{length-map}
-use Rattle.sheet.specs.declared.parts.Need.{Need}
-use Rattle.sheet.specs.Fit.{NeedFits, linkHas, noNeed}
+use Rattle.sheet.specs.Fit.{NeedsFit, LinksFit}
 use Rattle.sheet.specs.Model.{needOf}
 use Rattle.sheet.proofs.Keeping.{held-needs, held-links}
 use Rattle.sheet.proofs.sheet.Sheet.new.Needs as need
@@ -33,11 +29,9 @@ returns-then-not-needs-fit c limits =
     let needs = held-needs n (vec-items (c .args .starts)) (vec-items (c .args .effects)) (vec-items (c .args .needs)) (vec-items (c .args .pairs)) limits in
     let links = held-links n (vec-items (c .args .starts)) (vec-items (c .args .effects)) (vec-items (c .args .needs)) (vec-items (c .args .pairs)) limits in
     let signals : c .len-signals .result ≡ length (vec-items (c .args .starts)) = c .len-signals .ensures ∙ c .args .starts .ok .0 in
-    let Fit : List Need → Type 0 = λ xs. (k : ℕ) → k < length xs → NeedFits n (c .len-signals .result) (getD xs k noNeed .step) (getD xs k noNeed .signal) in
-    let Within : List Need → Type 0 = λ xs. (k j : ℕ) → k < length xs → linkHas (getD xs k noNeed .link) j ≡ true → j < n in
     elim (c .then-not-needs-fit .came) [
       | then-not-needs-fit·by·then-not-needs-fit w ↦
-          w .if-not-needs-fit .ensures tt (subst Fit (sym (c .as-slice-2 .ensures .value)) (λ k h. let fit = needs k h in omega arith))
+          w .if-not-needs-fit .ensures tt (subst (NeedsFit n (c .len-signals .result)) (sym (c .as-slice-2 .ensures .value)) (λ k h. let fit = needs k h in omega arith))
       | then-not-needs-fit·by·else-not-needs-fit·then-not-links-fit w ↦
-          w .if-not-links-fit .ensures tt (subst Within (sym (w .as-slice-else-not-needs-fit .ensures .value)) links)
+          w .if-not-links-fit .ensures tt (subst (LinksFit n) (sym (w .as-slice-else-not-needs-fit .ensures .value)) links)
     ]
