@@ -49,6 +49,7 @@ pub fn read(heap: Global, file: &[u8]) -> Result<Sheet, ReadError>
     }
     match draft.finish() {
         Some(sheet) => Ok(sheet),
+        // what the ledger has let through keeps every limit of a sheet
         None => unreachable(),
     }
 }

@@ -3,7 +3,7 @@ ghost use mathlib.Core.Path.{_≡_};
 ghost use mathlib.Core.Bool.{_||_};
 ghost use Prim.Native.Nat.{ℕ, _<_};
 ghost use lib.Dec.{eqb};
-ghost use Rattle.sheet.specs.Sets.{has, emptySet};
+ghost use Rattle.sheet.specs.Sets.{has, emptySet, added};
 
 #[derive(Clone, Copy)]
 pub struct IndexSet {
@@ -31,6 +31,7 @@ impl IndexSet {
 
     // The set with one number more; a number past 63 adds nothing.
     pub fn with(self, index: u8) -> IndexSet
+        ensures value { λ r. ⌜ r ≡ added self index ⌝ }
         ensures has { λ r. ⌜ ((k : ℕ) → k < 64 → has r k ≡ (eqb k index || has self k)) ⌝ }
     {
         if index >= 64 {
