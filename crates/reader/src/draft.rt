@@ -107,8 +107,7 @@ impl Draft {
                 self.link(need, contributors.bytes);
                 Ok(())
             }
-            Record::Name { step: _, name: _ } => Ok(()),
-            Record::End => Ok(()),
+            Record::Name { step: _, name: _ } | Record::End => Ok(()),
         }
     }
 

@@ -17,7 +17,7 @@ use Rattle.sheet.specs.declared.parts.Effect.{Effect}
 use Rattle.sheet.specs.declared.parts.Link.{Link}
 use Rattle.sheet.specs.declared.parts.Need.{Need as HeldNeed}
 use Rattle.sheet.specs.declared.parts.Pair.{Pair}
-use Rattle.sheet.specs.Fit.{NeedsFit, LinksFit, linkHas, noNeed as noHeldNeed}
+use Rattle.sheet.specs.Fit.{NeedFits, NeedsFit, LinksFit, linkHas, noNeed as noHeldNeed}
 use Rattle.sheet.specs.Limits.{Limits, noNeed}
 use Rattle.sheet.specs.Model.{Need, needOf, linkOf, modelOf}
 use Rattle.sheet.specs.Sets.{bit, has, mem, members, rising}
@@ -84,3 +84,19 @@ module _ (n : ℕ) (starts : List ℕ) (effects : List Effect) (needs : List Hel
   pub held-links : Limits (modelOf n starts effects needs pairs) → LinksFit n needs
   held-links limits k j h e =
       limits .links-fit k j (omega (arith, long)) (ap (λ (x : Need). mem j (x .link)) (at k h) ∙ contributes (getD needs k noHeldNeed .link) j e)
+
+  -- the same of the model, by the code's own lists
+  pub model-needs : NeedsFit n (length starts) needs
+      → (k : ℕ) → k < length (map needOf needs) → NeedFits n (length starts) (getD (map needOf needs) k noNeed .step) (getD (map needOf needs) k noNeed .signal)
+  model-needs fits k h =
+      let inside : k < length needs = omega (arith, long) in
+      let fit = fits k inside in
+      let step = ap (λ (x : Need). x .step) (at k inside) in
+      let signal = ap (λ (x : Need). x .signal) (at k inside) in
+      (omega arith, omega arith, omega arith)
+
+  pub model-links : LinksFit n needs
+      → (k j : ℕ) → k < length (map needOf needs) → mem j (getD (map needOf needs) k noNeed .link) ≡ true → j < n
+  model-links fits k j h e =
+      let inside : k < length needs = omega (arith, long) in
+      fits k j inside (contributor (getD needs k noHeldNeed .link) j (sym (ap (λ (x : Need). mem j (x .link)) (at k inside)) ∙ e))

@@ -114,7 +114,8 @@ impl Sheet {
     ) -> Option<Sheet>
         ensures { λ r. ⌜ Cases r
             (Limits (modelOf steps (vec-items starts) (vec-items effects) (vec-items needs) (vec-items pairs)) → ⊥)
-            (λ s. model s ≡ modelOf steps (vec-items starts) (vec-items effects) (vec-items needs) (vec-items pairs)) ⌝ }
+            (λ s. (model s ≡ modelOf steps (vec-items starts) (vec-items effects) (vec-items needs) (vec-items pairs))
+            × Limits (modelOf steps (vec-items starts) (vec-items effects) (vec-items needs) (vec-items pairs))) ⌝ }
     {
         let signals = starts.len();
         if steps < 2 || steps > 64 || signals < 1 || signals > 64 {
