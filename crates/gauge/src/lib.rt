@@ -1,4 +1,6 @@
-// Gauges: whether a word of a signal meets a condition.
+//! Gauges: whether a word of a signal meets a condition.
+#![tactic(auto)]
+
 mod gauge;
 mod levels;
 mod lowest;

@@ -1,4 +1,6 @@
-// Prints a sheet file as text.
+//! Prints a sheet file as text.
+#![tactic(auto)]
+
 mod lines;
 mod name;
 mod parts;

@@ -1,4 +1,6 @@
-// Plants: the signals of a gin, each with a word.
+//! Plants: the signals of a gin, each with a word.
+#![tactic(auto)]
+
 mod difference;
 mod panel;
 mod plant;

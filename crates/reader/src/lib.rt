@@ -1,4 +1,6 @@
-// Reading a sheet file: the sheet that its records say, the name of a step.
+//! Reading a sheet file: the sheet that its records say, the name of a step.
+#![tactic(auto)]
+
 mod draft;
 mod ledger;
 mod naming;

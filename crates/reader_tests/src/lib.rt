@@ -1,4 +1,6 @@
-// The tests of `records` and `reader`, apart from them, so that they do not prove them a second time.
+//! The tests of `records` and `reader`, apart from them, so that they do not prove them a second time.
+#![tactic(auto)]
+
 #[cfg(test)]
 mod contents;
 #[cfg(test)]

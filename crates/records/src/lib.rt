@@ -1,4 +1,6 @@
-// The records of a sheet file, one by one.
+//! The records of a sheet file, one by one.
+#![tactic(auto)]
+
 pub mod record;
 mod shape;
 

@@ -1,5 +1,7 @@
-// A verdict or a fault as one line at the front of a buffer.
-// A line ends with byte 10, which its length counts. What stands after it stays, and so does all of a buffer that is too short.
+//! A verdict or a fault as one line at the front of a buffer.
+//! A line ends with byte 10, which its length counts. What stands after it stays, and so does all of a buffer that is too short.
+#![tactic(auto)]
+
 ghost use Rattle.std.specs.Prelude.{◌≡◌};
 ghost use Rattle.report.specs.Lines.{verdict_line, fault_line, answer, filled};
 

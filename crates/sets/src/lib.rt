@@ -1,2 +1,4 @@
-// Sets of steps or of signals.
+//! Sets of steps or of signals.
+#![tactic(auto)]
+
 pub mod index_set;

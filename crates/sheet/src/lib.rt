@@ -1,4 +1,6 @@
-// A sheet and its parts.
+//! A sheet and its parts.
+#![tactic(auto)]
+
 pub mod parts;
 pub mod sheet;
 #[cfg(test)]
