@@ -10,8 +10,8 @@ loop-word-preserved g c =
     let sound = g.met.P.Plant.sound c.args.plant.now in
     (omega (arith, i.0), c.write.ensures.after ∙ partly_more p c.args.words.now c.loop-word.word-index c.loop-word.signal q sound c.requires c.loop-word-test.true i.0 i.1)
 
-pub overflow-add-signal : goal.overflow-add-signal
-overflow-add-signal g c =
+pub overflow_add-signal : goal.overflow_add-signal
+overflow_add-signal g c =
     let p = g.P.Plant.meaning c.args.plant.now in
     let k = c.loop-word.word-index in
     let inside = accepted_all p c.args.words.now c.requires k c.loop-word-test.true in

@@ -9,13 +9,13 @@ pub returns-then-word : goal.returns-then-word
 returns-then-word c =
     let bits = c.args.self.now.bits in
     let signal = c.args.signal in
-    let inside = c.requires.0 in
+    let inside = c.requires.signal_bound in
     let flipped = ap (λ (m : ℕ). digits 128 (bit_xor bits m)) (one_shl signal 128 inside)
-    ∙ digits_flip 128 bits signal c.args.word inside c.requires.1 (λ e. c.if-word.true (c.word.ensures ∙ e)) in
+    ∙ digits_flip 128 bits signal c.args.word inside c.requires.word_bound (λ e. c.if-word.true (c.word.ensures ∙ e)) in
     rw flipped refl
 
 pub returns-else-word : goal.returns-else-word
 returns-else-word c =
     let bits = c.args.self.now.bits in
-    let kept = digits_keep 128 bits c.args.signal c.args.word c.requires.0 (sym c.word.ensures ∙ c.if-word.false) in
+    let kept = digits_keep 128 bits c.args.signal c.args.word c.requires.signal_bound (sym c.word.ensures ∙ c.if-word.false) in
     rw (sym kept) refl
