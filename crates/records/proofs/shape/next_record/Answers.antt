@@ -6,12 +6,12 @@ use Rattle.records.specs.Shape.{on_ok, body_at}
 use Rattle.records.proofs.Writing.{records-exactly}
 use Rattle.records.proofs.shape.next_record.Goals as goal
 
-pub returns-in-err-mark : goal.returns-in-err-mark
-returns-in-err-mark c =
-    let p = err_from_is_err_and c.from-residual.result c.from-residual.ensures.1 in
+pub returns-in_err-mark : goal.returns-in_err-mark
+returns-in_err-mark c =
+    let p = err_from_is_err_and c.from_residual.result c.from_residual.ensures.1 in
     rw (p.1, p.2)
     (record {
-      value = ap (λ (r : Result Mark ReaderFault). on_ok r (body_at c.args.file.now c.args.at)) c.in-err-mark.ensures;
+      value = ap (λ (r : Result Mark ReaderFault). on_ok r (body_at c.args.file.now c.args.at)) c.in_err-mark.ensures;
       places = tt;
       exact = records-exactly;
     })
@@ -19,7 +19,7 @@ returns-in-err-mark c =
 pub returns : goal.returns
 returns c =
     record {
-      value = c.body-at.ensures.value ∙ ap (λ (r : Result Mark ReaderFault). on_ok r (body_at c.args.file.now c.args.at)) c.in-ok-mark.ensures;
-      places = c.body-at.ensures.places;
+      value = c.body_at.ensures.value ∙ ap (λ (r : Result Mark ReaderFault). on_ok r (body_at c.args.file.now c.args.at)) c.in_ok-mark.ensures;
+      places = c.body_at.ensures.places;
       exact = records-exactly;
     }
