@@ -11,27 +11,27 @@ use Rattle.reader.proofs.reading.read.Goals as goal
 pub records-init : goal.records-init
 records-init c = ([], 0, walk_begins c.args.file.now, c.new-ledger.ensures, c.new-draft.ensures)
 
-pub returns-in-err-record : goal.returns-in-err-record
-returns-in-err-record c =
+pub returns-in_err-record : goal.returns-in_err-record
+returns-in_err-record c =
     let i = c.records.invariant in
-    let p = err_from_is_err_and c.from-residual.result c.from-residual.ensures.1 in
+    let p = err_from_is_err_and c.from_residual.result c.from_residual.ensures.1 in
     rw (p.1, p.2)
     (record {
-      value = reading_by c.args.file.now (faulty _) (c.in-err-record.ensures i.0 i.1 i.2 i.3);
+      value = reading_by c.args.file.now (faulty _) (c.in_err-record.ensures i.0 i.1 i.2 i.3);
       exact = reads_exactly;
       places = places_fit;
     })
 
-pub returns-in-err-add : goal.returns-in-err-add
-returns-in-err-add c =
+pub returns-in_err-add : goal.returns-in_err-add
+returns-in_err-add c =
     let i = c.records.invariant in
     let file = c.args.file.now in
     let step = answer_at file i.0 i.1 c.records.at c.advance.new.self (Some (c.in-Some.record, c.in-Some.next)) _ c.in-Some.is
-    (c.in-ok-record.ensures i.0 i.1 i.2 i.3) in
-    let p = err_from_is_err_and c.from-residual-in-err-add.result c.from-residual-in-err-add.ensures.1 in
+    (c.in_ok-record.ensures i.0 i.1 i.2 i.3) in
+    let p = err_from_is_err_and c.from_residual-in_err-add.result c.from_residual-in_err-add.ensures.1 in
     rw (p.1, p.2)
     (record {
-      value = record { count = suc i.1; past = i.0; newest = item_of c.in-Some.record; place = c.in-Some.next; reached = step.0; adds = c.in-err-add.ensures };
+      value = record { count = suc i.1; past = i.0; newest = item_of c.in-Some.record; place = c.in-Some.next; reached = step.0; adds = c.in_err-add.ensures };
       exact = reads_exactly;
       places = places_fit;
     })
@@ -41,7 +41,7 @@ records-smaller c =
     let i = c.records.invariant in
     let file = c.args.file.now in
     let step = answer_at file i.0 i.1 c.records.at c.advance.new.self (Some (c.in-Some.record, c.in-Some.next)) _ c.in-Some.is
-    (c.in-ok-record.ensures i.0 i.1 i.2 i.3) in
+    (c.in_ok-record.ensures i.0 i.1 i.2 i.3) in
     let on = further file i.1 i.0 c.records.at (item_of c.in-Some.record) c.in-Some.next i.2 step.0 in
     omega arith
 
@@ -50,23 +50,23 @@ records-preserved c =
     let i = c.records.invariant in
     let file = c.args.file.now in
     let step = answer_at file i.0 i.1 c.records.at c.advance.new.self (Some (c.in-Some.record, c.in-Some.next)) _ c.in-Some.is
-    (c.in-ok-record.ensures i.0 i.1 i.2 i.3) in
-    (item_of c.in-Some.record ∷ i.0, suc i.1, step.0, step.1, c.in-ok-add.ensures (said_by i.0) i.4)
+    (c.in_ok-record.ensures i.0 i.1 i.2 i.3) in
+    (item_of c.in-Some.record ∷ i.0, suc i.1, step.0, step.1, c.in_ok-add.ensures (said_by i.0) i.4)
 
 pub unreachable-requires : goal.unreachable-requires
 unreachable-requires c =
     let i = c.records.invariant in
     let file = c.args.file.now in
-    let end = answer_at file i.0 i.1 c.records.at c.advance.new.self None _ c.in-default.is
-    (c.in-ok-record.ensures i.0 i.1 i.2 i.3) in
+    let end = answer_at file i.0 i.1 c.records.at c.advance.new.self None _ c.in_default.is
+    (c.in_ok-record.ensures i.0 i.1 i.2 i.3) in
     c.in-None.ensures (subst Limits (sym i.4) (limits_at_end file i.0 end.0))
 
 pub returns : goal.returns
 returns c =
     let i = c.records.invariant in
     let file = c.args.file.now in
-    let end = answer_at file i.0 i.1 c.records.at c.advance.new.self None _ c.in-default.is
-    (c.in-ok-record.ensures i.0 i.1 i.2 i.3) in
+    let end = answer_at file i.0 i.1 c.records.at c.advance.new.self None _ c.in_default.is
+    (c.in_ok-record.ensures i.0 i.1 i.2 i.3) in
     record {
       value = reading_by file (ended i.0) end.0 ∙ ap Ok (sym (c.in-Some-finish.ensures ∙ i.4));
       exact = reads_exactly;

@@ -11,17 +11,17 @@ pub returns-then-at-len : goal.returns-then-at-len
 returns-then-at-len c =
     let v = c.args.self.now.needs in
     let i = c.from-at.result in
-    let x = c.index-mut.result.now in
+    let x = c.index_mut.result.now in
     let items = vec_items v in
     let inside : i < length items = omega (arith, v.ok.0) in
-    let held = get_or_read items i x inside c.index-mut.ensures.value noHeldNeed in
+    let held = get_or_read items i x inside c.index_mut.ensures.value noHeldNeed in
     let old : get_or (map need_of items) i no_need ≡ need_of x = get_or-map need_of items i noHeldNeed no_need inside ∙ ap need_of (sym held) in
-    let new : need_of (record { step = x.step; signal = x.signal; a = x.a; b = x.b; link = c.link-of.result }) ≡ linked_by c.args.contributors.now (need_of x) =
-    λ j. record { step = x.step; signal = x.signal; a = x.a; b = x.b; link = c.link-of.ensures j } in
-    let needs : map need_of (set items i (record { step = x.step; signal = x.signal; a = x.a; b = x.b; link = c.link-of.result }))
+    let new : need_of (record { step = x.step; signal = x.signal; a = x.a; b = x.b; link = c.link_of.result }) ≡ linked_by c.args.contributors.now (need_of x) =
+    λ j. record { step = x.step; signal = x.signal; a = x.a; b = x.b; link = c.link_of.ensures j } in
+    let needs : map need_of (set items i (record { step = x.step; signal = x.signal; a = x.a; b = x.b; link = c.link_of.result }))
     ≡ set (map need_of items) i (linked_by c.args.contributors.now (get_or (map need_of items) i no_need)) =
     map-set need_of items i _ ∙ ap (λ (n : Need). set (map need_of items) i n) (new ∙ ap (linked_by c.args.contributors.now) (sym old)) in
-    let moved = subst (λ (k : ℕ). map need_of (set items i (record { step = x.step; signal = x.signal; a = x.a; b = x.b; link = c.link-of.result }))
+    let moved = subst (λ (k : ℕ). map need_of (set items i (record { step = x.step; signal = x.signal; a = x.a; b = x.b; link = c.link_of.result }))
     ≡ set (map need_of items) k (linked_by c.args.contributors.now (get_or (map need_of items) k no_need))) c.from-at.ensures needs in
     let d = draft_sheet c.args.self.now in
     λ j. record { steps = d.steps; starts = d.starts; effects = d.effects; needs = moved j; pairs = d.pairs }
