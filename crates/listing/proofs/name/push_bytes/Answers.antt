@@ -10,7 +10,7 @@ loop-byte-preserved c =
     let before = string_bytes c.args.text.now in
     let name = c.args.name.now in
     let i = c.loop-byte.byte-index in
-    c.in-ok-push-byte.ensures
+    c.in_ok-push_byte.ensures
     ∙ ap (λ (t : List ℕ). t ++ shown_byte (get_or name i 0)) c.loop-byte.invariant
     ∙ flat_map_more shown_byte before (take i name) (get_or name i 0)
     ∙ sym (ap (λ (bs : List ℕ). before ++ flat_map shown_byte bs) (take_more name i 0 c.loop-byte-test.true))

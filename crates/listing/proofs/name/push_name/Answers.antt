@@ -8,4 +8,4 @@ use Rattle.listing.proofs.name.push_name.Goals as goal
 pub returns : goal.returns
 returns c =
     line_end (("NAME step ", c.args.step) ∷ (" at ", c.args.place) ∷ []) (codes " ") (flat_map shown_byte c.args.name.now) newline (string_bytes c.args.text.now)
-    c.in-ok-append.ensures c.in-ok-push-bytes.ensures c.in-ok-append-2.ensures
+    c.in_ok-append.ensures c.in_ok-push_bytes.ensures c.in_ok-append-2.ensures

@@ -12,11 +12,11 @@ use Rattle.listing.proofs.parts.push_link.Goals as goal
 pub returns-in-Some : goal.returns-in-Some
 returns-in-Some c =
     let small : c.in-Some.link.contributors.mask < 2 ^ 64 = omega arith in
-    IfOk-weaker c.push-members.result _ _
+    IfOk-weaker c.push_members.result _ _
     (λ _ e.
     e
     ∙ ap (λ (t : List ℕ). string_bytes c.args.text.now ++ t)
     (ap (λ (s : IndexSet). spaced (members s)) c.contributors.ensures
     ∙ sym (text_link c.in-Some.link small)
     ∙ sym (ap (λ (l : Option Link). link_text (link_of l)) c.in-Some.is)))
-    c.push-members.ensures
+    c.push_members.ensures

@@ -7,4 +7,4 @@ pub returns : goal.returns
 returns c =
     sheet_lines_lem c.args.sheet.now (string_bytes c.args.text.now)
     c.steps.ensures c.starts.ensures c.starts-2.ensures c.effects.ensures c.needs.ensures c.pairs.ensures
-    c.in-ok-push-head.ensures c.in-ok-push-lines.ensures c.in-ok-push-lines-2.ensures c.in-ok-push-lines-3.ensures c.in-ok-push-lines-4.ensures
+    c.in_ok-push_head.ensures c.in_ok-push_lines.ensures c.in_ok-push_lines-2.ensures c.in_ok-push_lines-3.ensures c.in_ok-push_lines-4.ensures

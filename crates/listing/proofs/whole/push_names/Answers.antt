@@ -24,7 +24,7 @@ loop-step-preserved c =
     let n = c.args.steps in
     let before = string_bytes c.loop-step.text in
     let rest = names_from file (k + 1) (n - (k + 1)) in
-    ap (λ (t : List ℕ). t ++ rest) c.in-ok-push-name-of.ensures
+    ap (λ (t : List ℕ). t ++ rest) c.in_ok-push_name_of.ensures
     ∙ append_assoc before (name_text k (naming file k)) rest
     ∙ sym (ap (λ (t : List ℕ). before ++ t) (more file k n c.loop-step-test.true))
     ∙ c.loop-step.invariant

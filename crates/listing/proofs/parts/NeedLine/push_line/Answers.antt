@@ -9,4 +9,4 @@ pub returns : goal.returns
 returns c =
     let n = c.args.self.now in
     line_end (("NEED ", c.args.number) ∷ (" step ", n.step) ∷ (" signal ", n.signal) ∷ (" a ", n.a) ∷ (" b ", n.b) ∷ []) (codes " link") (link_text (link_of n.link)) newline (string_bytes c.args.text.now)
-    c.in-ok-append.ensures c.in-ok-push-link.ensures c.in-ok-append-2.ensures
+    c.in_ok-append.ensures c.in_ok-push_link.ensures c.in_ok-append-2.ensures
