@@ -47,11 +47,15 @@ const ON_A_LAMP: &[Row] = &[
     ("dark", 0, 0, None),
 ];
 
-fn check_fault(rt: &impl Abort, fault: PlantFault, number: u8, place: u16) -> Result<(), Fail> {
+fn check_fault(rt: &impl Abort, rule: &str, fault: PlantFault, number: u8, place: u16) {
     let fault = Fault::from(fault);
-    assert_eq!(rt; (fault.number(), fault.place()), (number, place));
-    assert_eq!(rt; fault.layer(), Layer::Plant);
-    Ok(())
+    assert_eq!(rt;
+        (fault.number(), fault.place()),
+        (number, place),
+        "{}",
+        rule
+    );
+    assert_eq!(rt; fault.layer(), Layer::Plant, "{}", rule);
 }
 
 // Writes one row, and compares all words with those that should stand there.
@@ -61,27 +65,26 @@ fn check_row<P: Plant>(
     row: &Row,
     held: &mut [u16; 128],
 ) -> Result<(), Fail> {
-    let (_, signal, word, refused) = *row;
+    let (rule, signal, word, refused) = *row;
     match (plant.write(signal, word), refused) {
-        (Err(fault), Some(number)) => check_fault(rt, fault, number, signal)?,
+        (Err(fault), Some(number)) => check_fault(rt, rule, fault, number, signal),
         (Ok(()), None) => {
             let slot = held.get_mut(usize::from(signal)).ok_or("no such signal")?;
             *slot = word;
         }
-        (Err(_), None) => return Err(Fail::new("refused")),
-        (Ok(()), Some(_)) => return Err(Fail::new("accepted")),
+        (Err(_), None) | (Ok(()), Some(_)) => return Err(Fail::new(rule)),
     }
     let words = held
         .get(..usize::from(plant.count()))
         .ok_or("too many signals")?;
-    assert_eq!(rt; first_difference(plant, words), None);
+    assert_eq!(rt; first_difference(plant, words), None, "{}", rule);
     Ok(())
 }
 
 fn check_rows<P: Plant>(rt: &impl Abort, plant: &mut P, rows: &[Row]) -> Result<(), Fail> {
     let mut held = [0; 128];
     for row in rows {
-        check_row(rt, plant, row, &mut held).note(row.0)?;
+        check_row(rt, plant, row, &mut held)?;
     }
     Ok(())
 }
@@ -102,7 +105,10 @@ fn check_new<P: Plant>(rt: &impl Abort, plant: &P, count: u16, top: u16) -> Resu
     assert_eq!(rt; first_difference(plant, words), None);
     match plant.read(count) {
         Ok(_) => Err(Fail::new("a signal past the last")),
-        Err(fault) => check_fault(rt, fault, 40, count),
+        Err(fault) => {
+            check_fault(rt, "a signal past the last", fault, 40, count);
+            Ok(())
+        }
     }
 }
 
@@ -132,7 +138,7 @@ fn check_setting<P: Plant>(rt: &impl Abort, plant: &mut P) -> Result<(), Fail> {
     match set_words(plant, &[0; 129]) {
         Ok(()) => Err(Fail::new("a list too long was taken")),
         Err(fault) => {
-            check_fault(rt, fault, 40, plant.count())?;
+            check_fault(rt, "a list too long", fault, 40, plant.count());
             assert_eq!(rt; first_difference(plant, &[1, 1, 1]), None);
             assert_eq!(rt; first_difference(plant, &[1, 1, 1, 1]), Some(3));
             Ok(())
@@ -149,7 +155,7 @@ fn lists_of_words(rt: HostRuntime) -> Result<(), Fail> {
     match set_words(&mut panel, &[1, 0, 2]) {
         Ok(()) => Err(Fail::new("a word above the top was taken")),
         Err(fault) => {
-            check_fault(&rt, fault, 41, 2)?;
+            check_fault(&rt, "a word above the top", fault, 41, 2);
             assert_eq!(rt; first_difference(&panel, &[0, 0, 0]), None);
             Ok(())
         }

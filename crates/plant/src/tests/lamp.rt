@@ -1,6 +1,6 @@
 // A plant as a buyer would write one.
 ghost use Rattle.std.specs.Prelude.{◌≤◌, [], ◌∷◌};
-ghost use Rattle.std.proofs.Common.{rules, arith};
+ghost use Rattle.std.proofs.Common.{rules};
 
 use crate::Plant;
 use faults::fault::PlantFault;
@@ -21,7 +21,7 @@ impl Lamp {
 impl Plant for Lamp {
     ghost meaning = { λ lamp. record { count = 1; top = 1; words = lamp.light ∷ [] } };
 
-    ghost sound = { first_of (Prim.search rules, Prim.grind (arith, Self.row.coded.inj)) };
+    ghost sound = { Prim.search rules };
 
     fn count(&self) -> u16 {
         1
