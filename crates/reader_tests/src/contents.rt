@@ -24,7 +24,7 @@ fn sheet_of(heap: Global) -> Result<Sheet, Fail> {
 fn parts(rt: HostRuntime) -> Result<(), Fail> {
     let sheet = sheet_of(rt.alloc())?;
     assert_eq!(rt; sheet.steps(), 3);
-    assert_eq!(rt; sheet.starts(), &[258]);
+    assert_eq!(rt; sheet.starts(), [258].as_slice());
     let [effect] = sheet.effects() else {
         return Err(Fail::new("one effect"));
     };
@@ -79,7 +79,7 @@ fn a_name(rt: HostRuntime) -> Result<(), Fail> {
         return Err(Fail::new("a name"));
     };
     assert_eq!(rt; part.place, 45);
-    assert_eq!(rt; part.bytes, b"Press");
+    assert_eq!(rt; part.bytes, b"Press".as_slice());
     Ok(())
 }
 

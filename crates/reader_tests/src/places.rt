@@ -82,6 +82,6 @@ fn a_link_record(rt: HostRuntime) -> Result<(), Fail> {
         return Err(Fail::new("a link"));
     };
     assert_eq!(rt; (need, contributors.place), (0, 34));
-    assert_eq!(rt; contributors.bytes, &[2, 0, 2]);
+    assert_eq!(rt; contributors.bytes, [2, 0, 2].as_slice());
     Ok(())
 }
