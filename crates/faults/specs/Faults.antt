@@ -1,10 +1,10 @@
 -- The number, the place and the layer of every fault.
---   number_of f    its number
---   place_of f     its place, at most 16 bits
---   layer_of f     the layer that gave it
+--   number_of f             its number
+--   place_of f              its place, at most 16 bits
+--   layer_of f              the layer that gave it
 --   cause_number, run_number, plant_number   the number, layer by layer
---   run_place, plant_place                  the place, layer by layer
---   flaw_place f   the step of a circle, the need of any other flaw
+--   run_place, plant_place  the place, layer by layer
+--   flaw_place f            the step of a circle, the need of any other flaw
 use Rattle.std.specs.Prelude.{ℕ}
 use Rattle.faults.specs.declared.verdict.Flaw.{Flaw}
 use Rattle.faults.specs.declared.verdict.Flaw.TheVariants.{Circle, OpenNeed, Unsupported, Threat}

@@ -1,8 +1,8 @@
 -- The lowest word of a set.
---   lowest_from s k n   the lowest of the n numbers from k on that is in the set s, if one is
---   lowest_word s       the lowest word in the set s, if one is
+--   lowest_from s k n  the lowest of the n numbers from k on that is in the set s, if one is
+--   lowest_word s      the lowest word in the set s, if one is
 --   Lowest s r         r is the word that is in the set while none below it is; or r is none, and no word is in the set
---   LowestExactly     lowest_word answers r exactly if r is the lowest
+--   LowestExactly      lowest_word answers r exactly if r is the lowest
 use Rattle.std.specs.Prelude.{◌≡◌, ℕ, zero, suc, ◌+◌, ◌<◌, true, false, cond, Some, None, Option}
 use Rattle.gauge.specs.Meaning.{Words}
 

@@ -1,6 +1,6 @@
 -- Cases that the rules of the gauges name.
---   cases           for any signal and any condition a, b: what a gauge says, and what the rules say
---   MarkedCases    the two agree in every row
+--   cases        for any signal and any condition a, b: what a gauge says, and what the rules say
+--   MarkedCases  the two agree in every row
 use Rattle.std.specs.Prelude.{◌≡◌, ℕ, Bool, true, false, List, [], ◌∷◌, map}
 use Rattle.gauge.specs.Meaning.{positions, levels}
 

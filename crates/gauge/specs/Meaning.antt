@@ -1,12 +1,12 @@
 -- What gauges mean.
---   Words            a set of words
---   GaugeMeaning     for each signal and condition (two numbers, a and b) the set of words that meet it
---   bit n k          the bit k of the number n, 0 or 1; bit 0 is the lowest
---   positions        the words below 16 at which a has a 1, if b is 0
---   signed w         the signed number that a word of 16 bits is, in two's complement
---   levels           the words from a to b, all three signed
---   split k g h      g for the signals below k, h for the others
---   standard         positions below 32, levels from 32 on
+--   Words         a set of words
+--   GaugeMeaning  for each signal and condition (two numbers, a and b) the set of words that meet it
+--   bit n k       the bit k of the number n, 0 or 1; bit 0 is the lowest
+--   positions     the words below 16 at which a has a 1, if b is 0
+--   signed w      the signed number that a word of 16 bits is, in two's complement
+--   levels        the words from a to b, all three signed
+--   split k g h   g for the signals below k, h for the others
+--   standard      positions below 32, levels from 32 on
 use Rattle.std.specs.Prelude.{ℕ, ◌/◌, ◌%◌, ◌^◌, Bool, cond, ◌&&◌, ℤ, pos, ◌-ℤ◌, ◌==◌, int_le, nat_lt}
 
 abbrev pub Words : Type 0

@@ -6,7 +6,7 @@ use crate::gauge::Gauge;
 
 // None for a condition that no word meets.
 pub fn lowest_word<G: Gauge>(gauge: &G, signal: u16, a: u16, b: u16) -> Option<u16>
-    ensures value { result ≡ lowest_word (G.Gauge.meaning gauge.now signal a b) }
+    ensures value { result ≡ lowest_word (G.meaning gauge.now signal a b) }
     ensures law { LowestExactly }
 {
     for word in 0..=u16::MAX {

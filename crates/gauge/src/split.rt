@@ -25,7 +25,7 @@ impl<G, H> Split<G, H> {
 }
 
 impl<G: Gauge, H: Gauge> Gauge for Split<G, H> {
-    ghost meaning = { λ s. split s.boundary (G.Gauge.meaning s.first) (H.Gauge.meaning s.second) };
+    ghost meaning = { λ s. split s.boundary (G.meaning s.first) (H.meaning s.second) };
 
     fn meets(&self, signal: u16, a: u16, b: u16, word: u16) -> bool {
         if signal < self.boundary {

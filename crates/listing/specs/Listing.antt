@@ -1,19 +1,19 @@
 -- A sheet as lines of text. `decimal n` is what `{n}` writes.
---   newline            the byte that closes a line
---   fields ps e        words, each with a number after it, and then the end e
---   head_line n v       the first line of a sheet of n steps and v signals
---   signal_line i w     the line of signal i, which starts at the word w
---   effect_line i e     the line of effect i
---   spaced ks          numbers, each after a space
---   link_text ks        the contributors of a link, or the word for none, each after a space
---   need_line i n       the line of need i
---   pair_line i p       the line of pair i
---   numbered f i xs    the lines of a list of parts by f, numbered from i
---   sheet_lines s       all lines of a sheet but those of names
---   hex_digit d         the small hexadecimal digit of a number below 16
---   plain b            the byte b of a name stands for itself: printable ASCII, and no backslash
---   shown_byte b        the byte b of a name as it is shown: itself, or its two digits behind a backslash and an x
---   name_line n p bs    the line of step n, whose name has the bytes bs and begins at place p of the file
+--   newline           the byte that closes a line
+--   fields ps e       words, each with a number after it, and then the end e
+--   head_line n v     the first line of a sheet of n steps and v signals
+--   signal_line i w   the line of signal i, which starts at the word w
+--   effect_line i e   the line of effect i
+--   spaced ks         numbers, each after a space
+--   link_text ks      the contributors of a link, or the word for none, each after a space
+--   need_line i n     the line of need i
+--   pair_line i p     the line of pair i
+--   numbered f i xs   the lines of a list of parts by f, numbered from i
+--   sheet_lines s     all lines of a sheet but those of names
+--   hex_digit d       the small hexadecimal digit of a number below 16
+--   plain b           the byte b of a name stands for itself: printable ASCII, and no backslash
+--   shown_byte b      the byte b of a name as it is shown: itself, or its two digits behind a backslash and an x
+--   name_line n p bs  the line of step n, whose name has the bytes bs and begins at place p of the file
 use Rattle.std.specs.Prelude.{ℕ, ◌+◌, ◌/◌, ◌%◌, Bool, cond, not, ◌&&◌, List, [], ◌∷◌, ◌++◌, length, codes, decimal, ◌==◌, nat_le, nat_lt}
 use Prim.Native.String.{String}
 use Rattle.std.specs.List.{flat_map}

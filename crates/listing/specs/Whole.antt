@@ -1,8 +1,8 @@
 -- The text of a whole file.
---   name_text w r       the line of the step w, by what the file says of its name
---   names_from f k n    the names of the n steps from k on
---   listed f s         the lines of the sheet s, and then those of the names in the file f
---   ListedAs f r       the answer r for the file f: the text of the sheet that it says, its fault, or want of memory
+--   name_text w r     the line of the step w, by what the file says of its name
+--   names_from f k n  the names of the n steps from k on
+--   listed f s        the lines of the sheet s, and then those of the names in the file f
+--   ListedAs f r      the answer r for the file f: the text of the sheet that it says, its fault, or want of memory
 use Rattle.std.specs.Prelude.{◌≡◌, ℕ, zero, suc, ◌+◌, List, [], ◌++◌, Some, None, Ok, Err, string_bytes, Option, Result, String}
 use Rattle.std.specs.declared.alloc.Global.{Global}
 use Rattle.faults.specs.declared.fault.Fault.{Fault}

@@ -7,7 +7,7 @@ use std::fmt::Display;
 
 // A `String` refuses text for want of memory alone, so any error of the format says that.
 pub fn append<D: Display + Drop>(text: &mut String, value: D) -> Result<(), AllocError>
-    ensures { OnOk result (IfSome (D.Display.output value) (λ bs. string_bytes text.new ≡ string_bytes text.old ++ bs)) }
+    ensures { OnOk result (IfSome (D.output value) (λ bs. string_bytes text.new ≡ string_bytes text.old ++ bs)) }
 {
     text.write(value).or(Err(AllocError))
 }
@@ -21,7 +21,7 @@ pub trait Line {
 }
 
 pub fn push_lines<T: Line>(text: &mut String, parts: &[T]) -> Result<(), AllocError>
-    ensures { OnOk result (string_bytes text.new ≡ string_bytes text.old ++ numbered T.Line.line 0 parts.now) }
+    ensures { OnOk result (string_bytes text.new ≡ string_bytes text.old ++ numbered T.line 0 parts.now) }
 {
     for (i, part) in parts.iter().enumerate() {
         part.push_line(text, i)?;

@@ -1,9 +1,9 @@
 -- Where a plant differs from a list of words.
---   holds p s w             the plant has the signal s, at the word w
---   difference_from p k l    the lowest signal from k on that does not hold the word at its place in the list l, if one is
---   first_difference p l     the same from signal 0 on
---   Agrees p l n            the first n signals hold the first n words of the list
---   Difference p l r        r is the signal that does not hold its word while all below it do; or r is none, and all do
+--   holds p s w            the plant has the signal s, at the word w
+--   difference_from p k l  the lowest signal from k on that does not hold the word at its place in the list l, if one is
+--   first_difference p l   the same from signal 0 on
+--   Agrees p l n           the first n signals hold the first n words of the list
+--   Difference p l r       r is the signal that does not hold its word while all below it do; or r is none, and all do
 --   DifferenceExactly      first_difference answers r exactly if r is the lowest difference
 use Rattle.std.specs.Prelude.{◌≡◌, ℕ, ◌+◌, ◌<◌, Bool, true, false, cond, ◌&&◌, List, [], ◌∷◌, length, Some, None, Option, ◌==◌, nat_lt, slice_index}
 use Rattle.plant.specs.Meaning.{PlantMeaning}

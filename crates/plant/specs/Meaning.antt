@@ -3,11 +3,10 @@
 --   Sound p          count and top are 16-bit numbers; each signal below the count has a word, none above the top
 --   reading p s      what a read of the signal s answers
 --   writing p s w    what a write of the word w to the signal s answers
---   with_word p s w   the plant with the word of the signal s set to w, and no other word
+--   with_word p s w  the plant with the word of the signal s set to w, and no other word
 --   written p s w    the plant after the write: with that word if it is accepted, else as it was
 --   zeros n t        n signals at 0, with the top word t
-use Rattle.std.specs.Prelude.{◌≡◌, ℕ, ◌<◌, ◌≤◌, cond, ◌&&◌, List, length, set, replicate, Ok, Err, Result, nat_le, nat_lt, slice_index, slice_set}
-use Prim.{Unit}
+use Rattle.std.specs.Prelude.{◌≡◌, ℕ, ◌<◌, ◌≤◌, cond, ◌&&◌, List, length, replicate, Ok, Err, Result, nat_le, nat_lt, slice_index, slice_set}
 use Rattle.faults.specs.declared.fault.PlantFault.{PlantFault}
 use Rattle.faults.specs.declared.fault.PlantFault.TheVariants.{NoSignal, AboveTop}
 

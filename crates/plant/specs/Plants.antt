@@ -1,7 +1,7 @@
 -- What a rack and a panel mean.
---   rack_meaning r    as many signals as it was made for, with the words of its array
+--   rack_meaning r   as many signals as it was made for, with the words of its array
 --   digits n m       the n lowest binary digits of the number m, the lowest first
---   panel_meaning p   128 signals, with the binary digits of its number as words
+--   panel_meaning p  128 signals, with the binary digits of its number as words
 use Rattle.std.specs.Prelude.{ℕ, zero, suc, ◌/◌, ◌%◌, List, [], ◌∷◌, take}
 use Rattle.plant.specs.declared.rack.Rack.{Rack}
 use Rattle.plant.specs.declared.panel.Panel.{Panel}

@@ -1,5 +1,5 @@
 -- Words in an array of which the front is used.
-use Rattle.std.specs.Prelude.{◌≡◌, ℕ, zero, suc, ◌<◌, ◌≤◌, List, ◌∷◌, length, take, set, replicate, slice_index, slice_set, refl}
+use Rattle.std.specs.Prelude.{◌≡◌, ℕ, zero, suc, ◌<◌, ◌≤◌, List, ◌∷◌, length, take, replicate, slice_index, slice_set, refl}
 use Rattle.std.proofs.Common.{ap, inl, inr, arith, get_or-take, length-take-le, get_or-set_same, get_or-set_other}
 use Rattle.std.proofs.lemmas.Bool.{cases_eq}
 use Rattle.plant.specs.declared.rack.Rack.{Rack}

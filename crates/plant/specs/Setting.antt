@@ -1,15 +1,14 @@
 -- Setting the signals of a plant, from signal 0 on, to the words of a list.
 --   then r next         r if it is a refusal, else next
---   setting_from p k l   the first refusal among the writes of the list's words to the signals from k on, or that all are accepted
+--   setting_from p k l  the first refusal among the writes of the list's words to the signals from k on, or that all are accepted
 --   setting p l         the same from signal 0 on
---   if_done r p q        q if r is a refusal, else p
---   all_set p l          the plant afterwards: the words of the list and then those that stood there; as it was after a refusal
+--   if_done r p q       q if r is a refusal, else p
+--   all_set p l         the plant afterwards: the words of the list and then those that stood there; as it was after a refusal
 --   SetsOne p s w r     what the plant is after a write of the word w to the signal s that was answered by r: if accepted, that
 --                       signal reads as w and every other as before; if refused, nothing is changed
 --   Kept p q            the plant q is sound, with the count and the top of p
---   SetsOneWord       for every sound plant and every write: SetsOne and Kept
+--   SetsOneWord         for every sound plant and every write: SetsOne and Kept
 use Rattle.std.specs.Prelude.{◌≡◌, ℕ, ◌+◌, ◌≢◌, List, [], ◌∷◌, ◌++◌, length, drop, Ok, Err, Result}
-use Prim.{Unit}
 use Rattle.faults.specs.declared.fault.PlantFault.{PlantFault}
 use Rattle.plant.specs.Meaning.{PlantMeaning, Sound, reading, writing, written}
 

@@ -6,7 +6,7 @@ use crate::plant::Plant;
 
 // Whether a plant has the signal, at that word.
 fn holds<P: Plant>(plant: &P, signal: u16, word: u16) -> bool
-    ensures { result ≡ holds (P.Plant.meaning plant.now) signal word }
+    ensures { result ≡ holds (P.meaning plant.now) signal word }
 {
     match plant.read(signal) {
         Ok(held) => held == word,
@@ -16,7 +16,7 @@ fn holds<P: Plant>(plant: &P, signal: u16, word: u16) -> bool
 
 // The lowest signal that has not the word at its place in the list, or is not there at all.
 pub fn first_difference<P: Plant>(plant: &P, words: &[u16]) -> Option<u16>
-    ensures value { result ≡ first_difference (P.Plant.meaning plant.now) words.now }
+    ensures value { result ≡ first_difference (P.meaning plant.now) words.now }
     ensures law { DifferenceExactly }
 {
     let mut signal = 0;

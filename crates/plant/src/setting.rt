@@ -7,7 +7,7 @@ use faults::fault::PlantFault;
 
 // The first refusal that the writes of the list to the signals from 0 on would meet.
 fn accepts<P: Plant>(plant: &P, words: &[u16]) -> Result<(), PlantFault>
-    ensures value { result ≡ setting (P.Plant.meaning plant.now) words.now }
+    ensures value { result ≡ setting (P.meaning plant.now) words.now }
     ensures law { SetsOneWord }
 {
     let mut signal = 0;
@@ -25,8 +25,8 @@ fn accepts<P: Plant>(plant: &P, words: &[u16]) -> Result<(), PlantFault>
 
 // Writes a list of which every word is accepted.
 fn write_each<P: Plant>(plant: &mut P, words: &[u16])
-    requires { setting (P.Plant.meaning plant.old) words.now ≡ Ok tt }
-    ensures { P.Plant.meaning plant.new ≡ all_set (P.Plant.meaning plant.old) words.now }
+    requires { setting (P.meaning plant.old) words.now ≡ Ok tt }
+    ensures { P.meaning plant.new ≡ all_set (P.meaning plant.old) words.now }
 {
     let mut signal = 0;
     for word in words {
@@ -37,8 +37,8 @@ fn write_each<P: Plant>(plant: &mut P, words: &[u16])
 
 // Writes the words of the list to the signals from 0 on: all of them, or none.
 pub fn set_words<P: Plant>(plant: &mut P, words: &[u16]) -> Result<(), PlantFault>
-    ensures value { result ≡ setting (P.Plant.meaning plant.old) words.now }
-    ensures after { P.Plant.meaning plant.new ≡ all_set (P.Plant.meaning plant.old) words.now }
+    ensures value { result ≡ setting (P.meaning plant.old) words.now }
+    ensures after { P.meaning plant.new ≡ all_set (P.meaning plant.old) words.now }
     ensures law { SetsOneWord }
 {
     accepts(plant, words)?;

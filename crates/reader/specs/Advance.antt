@@ -1,6 +1,6 @@
 -- One record more of a file, by a ledger.
---   Reached f l p       some records lead to the place p, and the ledger l shows what they say
---   Advanced f past n l r   the answer r after n records, those of past, with the ledger l afterwards
+--   Reached f l p          some records lead to the place p, and the ledger l shows what they say
+--   Advanced f past n l r  the answer r after n records, those of past, with the ledger l afterwards
 use Rattle.std.specs.Prelude.{◌≡◌, ℕ, suc, List, ◌∷◌, Some, None, Ok, Err, Option, Result}
 use Rattle.faults.specs.declared.fault.ReaderFault.{ReaderFault}
 use Rattle.reader.specs.declared.ledger.Ledger.{Ledger}

@@ -1,6 +1,6 @@
 -- The sheet that is being read.
---   draft_sheet d    the sheet of the draft's parts
---   takes_memory x   the record adds to a list of the sheet
+--   draft_sheet d   the sheet of the draft's parts
+--   takes_memory x  the record adds to a list of the sheet
 use Rattle.std.specs.Prelude.{Bool, true, false, vec_items}
 use Rattle.sheet.specs.Model.{Sheet, model_of}
 use Rattle.reader.specs.declared.draft.Draft.{Draft}

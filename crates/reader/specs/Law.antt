@@ -1,13 +1,13 @@
 -- The laws of reading.
---   said_in s xs       what the records xs say, the oldest first, after what is said so far
---   Written f s       some lawful list of records has the bytes of the file f and says the sheet s
---   name_of p xs w     the name of the step w in the records xs, of which the first is at the place p, with its place
---   ReadsExactly     a file is read exactly if it is the bytes of a lawful list of records,
---                     and then the sheet is the one that those records say
---   PlacesFit        no fault's place passes 16 bits, and no file that is read is longer than 25,094 bytes
---   FaultsFirst      who asks for a step's name gets the file's fault, if it has one, else the fault of a step that is not there,
---                     else an answer
---   NamesExactly     the name of a step is the one that the records of the file say, at its place
+--   said_in s xs    what the records xs say, the oldest first, after what is said so far
+--   Written f s     some lawful list of records has the bytes of the file f and says the sheet s
+--   name_of p xs w  the name of the step w in the records xs, of which the first is at the place p, with its place
+--   ReadsExactly    a file is read exactly if it is the bytes of a lawful list of records,
+--                   and then the sheet is the one that those records say
+--   PlacesFit       no fault's place passes 16 bits, and no file that is read is longer than 25,094 bytes
+--   FaultsFirst     who asks for a step's name gets the file's fault, if it has one, else the fault of a step that is not there,
+--                   else an answer
+--   NamesExactly    the name of a step is the one that the records of the file say, at its place
 use Rattle.std.specs.Prelude.{◌≡◌, ℕ, ◌+◌, ◌^◌, ◌<◌, ◌≤◌, cond, List, [], ◌∷◌, length, Some, None, Ok, Err, Option, ◌==◌}
 use Rattle.std.specs.List.{flat_map}
 use Rattle.faults.specs.declared.fault.Fault.TheVariants.{Reader, Run}

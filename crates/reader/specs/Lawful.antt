@@ -1,11 +1,11 @@
 -- Which record may come next, by the tests that are made of it.
---   stands s m        a record with the mark m may stand here
---   stands_after n v k m   the same, by the number n of steps and v of signals announced and the number k of start words read
---   unless ok c rest  the rule c is broken unless ok; the later rules are rest
---   sets es w x       one of the effects is of the step w on the signal x
---   all_below n ks     every number is below n
---   objection s x     the first rule that the record x breaks after what is said so far, if any
---   Admissible s x    the record x may come after what is said so far
+--   stands s m            a record with the mark m may stand here
+--   stands_after n v k m  the same, by the number n of steps and v of signals announced and the number k of start words read
+--   unless ok c rest      the rule c is broken unless ok; the later rules are rest
+--   sets es w x           one of the effects is of the step w on the signal x
+--   all_below n ks        every number is below n
+--   objection s x         the first rule that the record x breaks after what is said so far, if any
+--   Admissible s x        the record x may come after what is said so far
 use Rattle.std.specs.Prelude.{◌≡◌, ℕ, suc, Bool, true, false, cond, not, ◌&&◌, ◌||◌, List, [], ◌∷◌, length, Some, None, Option, ◌==◌, nat_lt}
 use Rattle.faults.specs.declared.fault.Cause.{Cause}
 use Rattle.faults.specs.declared.fault.Cause.TheVariants as cause

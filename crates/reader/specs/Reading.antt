@@ -1,16 +1,16 @@
 -- Reading a file record by record.
---   next f s p        the record at the place p after what is said so far, and the place after it, or the fault
+--   next f s p       the record at the place p after what is said so far, and the place after it, or the fault
 --   refused_by, admitted, placed   the same from the inside out: a broken rule, the body of the record, its mark
---   Progress          going on after some records (the newest first) at a place; ended after them; or a fault
---   onward f past r   where one record more leads; after the end record the file ends
---   advance f g       one record more, unless the reading has come to an end
---   walk f n          where the reading of the file f is after n records
---   whole_walk f       where it is when no byte can be left
---   sheet_after g      the sheet that is said then, or the fault
---   reading f         the sheet that the file says, or its fault
---   name_in past w     the name of the step w and its place
---   name_after g w     the name that is said then, or the fault
---   naming f w        the name of a step, as a place and bytes, or nothing, or the fault
+--   Progress         going on after some records (the newest first) at a place; ended after them; or a fault
+--   onward f past r  where one record more leads; after the end record the file ends
+--   advance f g      one record more, unless the reading has come to an end
+--   walk f n         where the reading of the file f is after n records
+--   whole_walk f     where it is when no byte can be left
+--   sheet_after g    the sheet that is said then, or the fault
+--   reading f        the sheet that the file says, or its fault
+--   name_in past w   the name of the step w and its place
+--   name_after g w   the name that is said then, or the fault
+--   naming f w       the name of a step, as a place and bytes, or nothing, or the fault
 use Rattle.std.specs.Prelude.{ℕ, zero, suc, ◌+◌, cond, List, [], ◌∷◌, length, Some, None, Ok, Err, Option, Result, ◌==◌, nat_lt}
 use Rattle.faults.specs.declared.fault.Cause.{Cause}
 use Rattle.faults.specs.declared.fault.Cause.TheVariants as cause

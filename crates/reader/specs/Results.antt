@@ -1,8 +1,8 @@
 -- What `read` and `name` answer.
---   Starved f     a record that adds to the sheet was read, and no fault came up to it
---   ReadAs f r    the answer r of `read` for the file f: the sheet that it says, its fault, or want of memory
---   part_of o      a part as its place and its bytes
---   named r       the answer of `name`, with its part so
+--   Starved f   a record that adds to the sheet was read, and no fault came up to it
+--   ReadAs f r  the answer r of `read` for the file f: the sheet that it says, its fault, or want of memory
+--   part_of o   a part as its place and its bytes
+--   named r     the answer of `name`, with its part so
 use Rattle.std.specs.Prelude.{◌≡◌, ℕ, true, List, ◌∷◌, Some, None, Ok, Err, Option, Result}
 use Rattle.faults.specs.declared.fault.Fault.{Fault}
 use Rattle.sheet.specs.declared.sheet.Sheet.{Sheet}

@@ -1,8 +1,8 @@
 -- The rules of a sheet file: what each record keeps, and in which order the records stand.
---   IsPart x      the record is a part of the sheet: an effect, a need, a pair, a link or a name
---   Keeps s x     the rules that the record x keeps after what is said so far
---   Follow s xs   each of these records keeps the rules after what is said so far and those before it
---   Lawful xs     these records make a whole file: one header, a start word for each signal, parts in any order, the end record
+--   IsPart x     the record is a part of the sheet: an effect, a need, a pair, a link or a name
+--   Keeps s x    the rules that the record x keeps after what is said so far
+--   Follow s xs  each of these records keeps the rules after what is said so far and those before it
+--   Lawful xs    these records make a whole file: one header, a start word for each signal, parts in any order, the end record
 use Rattle.std.specs.Prelude.{◌≡◌, ℕ, ◌<◌, ◌≤◌, false, List, [], ◌∷◌, ◌++◌, map, length, slice_index, slice_index_or}
 use Rattle.std.specs.List.{AllByRecursion as All}
 use Rattle.sheet.specs.Fit.{EffectFits, SameTarget, NeedFits, no_effect}

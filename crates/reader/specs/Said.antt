@@ -1,11 +1,11 @@
 -- What the records of a file say so far.
---   Said          the numbers of steps and signals, the lists of the sheet, the needs that have a link record, the steps that have a name
---   nothing       what no record says
---   said s x      what is said with one record more
---   said_by past   what a list of records says, the newest first
---   sheet_of s     the sheet that is said
---   open_need     a need without a link
---   linked_by cs n the need n with these contributors
+--   Said            the numbers of steps and signals, the lists of the sheet, the needs that have a link record, the steps that have a name
+--   nothing         what no record says
+--   said s x        what is said with one record more
+--   said_by past    what a list of records says, the newest first
+--   sheet_of s      the sheet that is said
+--   open_need       a need without a link
+--   linked_by cs n  the need n with these contributors
 use Rattle.std.specs.Prelude.{ℕ, List, [], ◌∷◌, ◌++◌, slice_index_or, slice_set}
 use Rattle.sheet.specs.declared.parts.Effect.{Effect}
 use Rattle.sheet.specs.declared.parts.Pair.{Pair}

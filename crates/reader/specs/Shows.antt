@@ -1,5 +1,5 @@
 -- A ledger shows what the records so far say.
---   Shows l s     every count and every set of the ledger l is that of s
+--   Shows l s  every count and every set of the ledger l is that of s
 use Rattle.std.specs.Prelude.{◌≡◌, ℕ, ◌<◌, false, length, slice_index_or}
 use Rattle.sets.specs.Sets.{has, mem, empty_set}
 use Rattle.reader.specs.declared.ledger.Ledger.{Ledger}

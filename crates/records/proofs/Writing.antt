@@ -3,7 +3,6 @@ use Rattle.std.proofs.Common.{◌≡◌, ℕ, suc, ◌+◌, ◌*◌, ◌/◌, �
 use Rattle.std.proofs.lemmas.List.{length-drop, length-append, get_or-drop, drop-drop, drop_more, take_at, drop_at, take-append-drop, append_assoc}
 use Rattle.std.proofs.lemmas.Bool.{eqb-true, le-leb, and_parts, cond-true}
 use Rattle.faults.specs.declared.fault.ReaderFault.{ReaderFault}
-use Rattle.sheet.specs.declared.parts.Effect.{Effect}
 use Rattle.records.specs.declared.record.Mark.{Mark}
 use Rattle.records.specs.declared.record.Mark.TheVariants as mark
 use Rattle.records.specs.Item.{Item, header, start, effect, need, pair, link, name, end, kind, letters, word, fields, bytes}
@@ -233,8 +232,8 @@ Stood file p y = Standing file p y.0 y.1
 standing : (file : List ℕ) (p : ℕ) (m : Mark) (y : Item × ℕ) → Whole file p m y → Stood file p y
 standing file p m y b = record { formed = b.0.formed; after = b.0.after; here = b.1 }
 
-pub records-exactly : RecordsExactly
-records-exactly file small p x q = (stands_there, λ t. reads_there t)
+pub records_exactly : RecordsExactly
+records_exactly file small p x q = (stands_there, λ t. reads_there t)
   where
     stands_there : record_at file p ≡ Ok (x, q) → Standing file p x q
     stands_there e =

@@ -1,12 +1,12 @@
 -- A record of a sheet file as a value, and its bytes.
---   Item          a record: its kind and its fields, contributors and names as lists of bytes
---   kind x        the mark that it begins with
---   letters m     the two letters of a mark
---   word w        a word, high byte first
---   fields x      the bytes after the mark
---   bytes x       the bytes of a record
---   size past     how many bytes a list of records takes
---   is_end x       the record ends the file
+--   Item       a record: its kind and its fields, contributors and names as lists of bytes
+--   kind x     the mark that it begins with
+--   letters m  the two letters of a mark
+--   word w     a word, high byte first
+--   fields x   the bytes after the mark
+--   bytes x    the bytes of a record
+--   size past  how many bytes a list of records takes
+--   is_end x   the record ends the file
 use Rattle.std.specs.Prelude.{ℕ, ◌+◌, ◌/◌, ◌%◌, Bool, true, false, List, [], ◌∷◌, ◌++◌, length, codes}
 use Rattle.sheet.specs.declared.parts.Effect.{Effect}
 use Rattle.records.specs.declared.record.Mark.{Mark}

@@ -1,18 +1,18 @@
 -- The record at a place of a file: its mark, its fields, their limits, the rest of its bytes.
 --   fault c p         a fault of the file, by its cause and its place
---   on_ok r f          f of what r answers, or the fault of r
+--   on_ok r f         f of what r answers, or the fault of r
 --   whole f p q r     r, unless the file f ends ahead of the place q: then the record at p is cut short
 --   within ok p r     r, unless a limit is broken
 --   between a x b     x is a to b
---   byte_at f p        the byte at a place
---   word_at f p        the word at a place, high byte first
+--   byte_at f p       the byte at a place
+--   word_at f p       the word at a place, high byte first
 --   part f p k        the k bytes from a place on
---   mark_of a b        the mark with these two letters
+--   mark_of a b       the mark with these two letters
 --   known p o         the mark, or the fault of an unknown one
---   mark_at f p        the mark at a place
---   part_at f p most   the place and the bytes of the part whose length stands three bytes on from the mark at p
---   body_at f p m      the record at a place that begins with the mark m, and the place after it
---   record_at f p      the record at a place, and the place after it
+--   mark_at f p       the mark at a place
+--   part_at f p most  the place and the bytes of the part whose length stands three bytes on from the mark at p
+--   body_at f p m     the record at a place that begins with the mark m, and the place after it
+--   record_at f p     the record at a place, and the place after it
 use Rattle.std.specs.Prelude.{ℕ, ◌+◌, ◌*◌, Bool, cond, ◌&&◌, List, length, take, drop, Some, None, Ok, Err, Option, Result, ◌==◌, nat_le, slice_index}
 use Rattle.faults.specs.declared.fault.Cause.{Cause}
 use Rattle.faults.specs.declared.fault.Cause.TheVariants as cause

@@ -1,8 +1,8 @@
 -- Where a record stands in a file.
 --   Bytes f           every number of the list is a byte
---   well_formed x      the record keeps the limits of its own fields
+--   well_formed x     the record keeps the limits of its own fields
 --   Standing f p x q  the bytes of the record x stand in the file f from the place p on, up to the place q, and x keeps its own limits
---   RecordsExactly   a record is read at a place exactly if it stands there
+--   RecordsExactly    a record is read at a place exactly if it stands there
 use Rattle.std.specs.Prelude.{◌≡◌, ℕ, ◌+◌, ◌<◌, Bool, true, ◌&&◌, List, ◌++◌, length, drop, Ok, slice_index}
 use Rattle.records.specs.Item.{Item, header, start, effect, need, pair, link, name, end, bytes}
 use Rattle.records.specs.Shape.{between, record_at}

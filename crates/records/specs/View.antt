@@ -1,7 +1,7 @@
 -- What a `Record` of the code stands for.
---   item_of r      the record as a value
+--   item_of r     the record as a value
 --   shown r       the same of what the record reader answers, with the place after the record
---   part_shown r   the place and the bytes of a part
+--   part_shown r  the place and the bytes of a part
 --   PlacedAt p r  the parts of the record r at the place p begin four bytes on from its mark
 --   Placed p r    the same of what the record reader answers
 use Rattle.std.specs.Prelude.{◌≡◌, ℕ, ◌+◌, List, Ok, Err, Result}

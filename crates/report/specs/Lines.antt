@@ -1,10 +1,10 @@
 -- The line of a verdict and of a fault, and what a buffer holds once a line is put into it. `decimal n` is what `{n}` writes.
 --   newline         the byte that closes a line
---   flaw_line f      the line of a flaw
---   verdict_line v   the line of a verdict
---   refused_line f   the number and the place of a fault as a line
---   flaw_or l f      the line of the flaw for which a run is turned down, and for any other fault of a run the line l
---   fault_line f     the line of a fault
+--   flaw_line f     the line of a flaw
+--   verdict_line v  the line of a verdict
+--   refused_line f  the number and the place of a fault as a line
+--   flaw_or l f     the line of the flaw for which a run is turned down, and for any other fault of a run the line l
+--   fault_line f    the line of a fault
 --   fits l b        the buffer b is long enough for the line l
 --   answer l b      the length of the line l; where the buffer b is too short, the fault that says it
 --   filled l b      the line l, and after it what stood in the buffer b there; where b is too short, b as it was

@@ -1,11 +1,11 @@
 -- Sets of numbers below 64, as the bits of a number.
---   bit m k       the bit k of the number m
---   has s k       k is in the set
---   rising p      the numbers below 64 that pass the test p, in rising order
---   members s     the numbers in the set, in rising order
---   empty_set      the set with none
---   added s k     the set with k in it; a number past 63 adds nothing
---   mem k l       k stands in the list
+--   bit m k    the bit k of the number m
+--   has s k    k is in the set
+--   rising p   the numbers below 64 that pass the test p, in rising order
+--   members s  the numbers in the set, in rising order
+--   empty_set  the set with none
+--   added s k  the set with k in it; a number past 63 adds nothing
+--   mem k l    k stands in the list
 use Rattle.std.specs.Prelude.{ℕ, ◌/◌, ◌^◌, Bool, false, cond, ◌&&◌, ◌||◌, List, [], ◌∷◌, filter, ◌==◌, bit_and, bit_or, nat_lt}
 use Rattle.std.specs.List.{range_with_len}
 use Rattle.sets.specs.declared.index_set.IndexSet.{IndexSet}

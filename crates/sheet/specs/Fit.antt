@@ -1,14 +1,14 @@
 -- What every part of a sheet of n steps and v signals keeps, and every list of them.
---   EffectFits n v e      the effect is of a step between start and finish, on a signal that there is
---   SameTarget e f        two effects of one step on one signal
---   NeedFits n v s x      a need of the step s on the signal x: no need of the start, on a signal that there is
---   PairFits n p          both steps of the pair are there
---   link_has l k           the step k is a contributor of the link
+--   EffectFits n v e  the effect is of a step between start and finish, on a signal that there is
+--   SameTarget e f    two effects of one step on one signal
+--   NeedFits n v s x  a need of the step s on the signal x: no need of the start, on a signal that there is
+--   PairFits n p      both steps of the pair are there
+--   link_has l k      the step k is a contributor of the link
 --   no_effect, no_need, no_pair   what stands past a list's end
 --   EffectsFit, NeedsFit, LinksFit, PairsFit   every part of a list keeps the above
---   EffectsSingle es      no two effects of the list are of one step on one signal
---   Tells r P             the answer r is whether P holds
-use Rattle.std.specs.Prelude.{◌≡◌, ℕ, suc, ◌<◌, Bool, true, false, List, length, get_or, Some, None, MatchBool, Option, slice_index_or}
+--   EffectsSingle es  no two effects of the list are of one step on one signal
+--   Tells r P         the answer r is whether P holds
+use Rattle.std.specs.Prelude.{◌≡◌, ℕ, suc, ◌<◌, Bool, true, false, List, length, Some, None, MatchBool, Option, slice_index_or}
 use Rattle.sets.specs.Sets.{has}
 use Rattle.sheet.specs.declared.parts.Effect.{Effect}
 use Rattle.sheet.specs.declared.parts.Link.{Link}
@@ -47,10 +47,10 @@ abbrev pub EffectsSingle : List Effect → Type 0
 EffectsSingle es = (j k : ℕ) → j < k → k < length es → SameTarget (slice_index_or es j no_effect) (slice_index_or es k no_effect) → ⊥
 
 abbrev pub NeedsFit : ℕ → ℕ → List Need → Type 0
-NeedsFit n v ns = (k : ℕ) → k < length ns → NeedFits n v (get_or ns k no_need).step (get_or ns k no_need).signal
+NeedsFit n v ns = (k : ℕ) → k < length ns → NeedFits n v (slice_index_or ns k no_need).step (slice_index_or ns k no_need).signal
 
 abbrev pub LinksFit : ℕ → List Need → Type 0
-LinksFit n ns = (k j : ℕ) → k < length ns → link_has (get_or ns k no_need).link j ≡ true → j < n
+LinksFit n ns = (k j : ℕ) → k < length ns → link_has (slice_index_or ns k no_need).link j ≡ true → j < n
 
 abbrev pub PairsFit : ℕ → List Pair → Type 0
 PairsFit n ps = (k : ℕ) → k < length ps → PairFits n (slice_index_or ps k no_pair)

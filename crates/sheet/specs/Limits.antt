@@ -1,6 +1,6 @@
 -- The limits that every sheet keeps.
---   no_need        what stands past the end of a list of needs
---   Limits s      the sheet s keeps them all
+--   no_need   what stands past the end of a list of needs
+--   Limits s  the sheet s keeps them all
 use Rattle.std.specs.Prelude.{◌≡◌, ℕ, ◌<◌, ◌≤◌, true, [], length, slice_index_or}
 use Rattle.sheet.specs.Fit.{EffectsFit, EffectsSingle, NeedFits, PairsFit}
 use Rattle.sheet.specs.Model.{Need, Sheet}

@@ -1,9 +1,9 @@
 -- A sheet as a record of lists.
---   Need          a need; its link is the list of its contributors in rising order, and the empty list where it has none
---   Sheet         the steps' number, the start word of each signal, the effects, needs and pairs in file order
---   link_of l      the contributors of a link
---   need_of n      the need that the code holds
---   model_of       the sheet of these parts, as the code holds them
+--   Need       a need; its link is the list of its contributors in rising order, and the empty list where it has none
+--   Sheet      the steps' number, the start word of each signal, the effects, needs and pairs in file order
+--   link_of l  the contributors of a link
+--   need_of n  the need that the code holds
+--   model_of   the sheet of these parts, as the code holds them
 use Rattle.std.specs.Prelude.{ℕ, List, [], map, Some, None, Option}
 use Rattle.sets.specs.Sets.{members}
 use Rattle.sheet.specs.declared.parts.Effect.{Effect}

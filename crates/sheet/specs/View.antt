@@ -1,5 +1,5 @@
 -- What a `Sheet` of the code stands for.
---   model s       the sheet as a record of lists
+--   model s  the sheet as a record of lists
 use Rattle.std.specs.Prelude.{vec_items}
 use Rattle.sheet.specs.Model.{Sheet, model_of}
 use Rattle.sheet.specs.declared.sheet.Sheet.{Sheet as HeldSheet}

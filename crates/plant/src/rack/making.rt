@@ -2,14 +2,14 @@
 ghost use Rattle.std.specs.Prelude.{◌≡◌, ◌≤◌, min};
 ghost use Rattle.plant.specs.Meaning.{zeros};
 ghost use Rattle.plant.specs.Plants.{rack_meaning};
-ghost use Rattle.plant.specs.contracts.rack.calls.RackPlant.TheImpl.{ghosts};
 
+use crate::plant::Plant;
 use crate::rack::Rack;
 
 impl Rack {
     // A rack of zeros. A number of signals above 128 counts as 128.
     pub fn new(signals: u16) -> Rack
-        ensures { ghosts.meaning result ≡ zeros (min signals 128) 65535 }
+        ensures { ⟦<Rack as Plant>⟧.meaning result ≡ zeros (min signals 128) 65535 }
     {
         Rack::of_zeros(signals.min(128))
     }

@@ -3,7 +3,7 @@ use Rattle.std.proofs.lemmas.Result.{err_from_is_err_and}
 use Rattle.faults.specs.declared.fault.ReaderFault.{ReaderFault}
 use Rattle.records.specs.declared.record.Mark.{Mark}
 use Rattle.records.specs.Shape.{on_ok, body_at}
-use Rattle.records.proofs.Writing.{records-exactly}
+use Rattle.records.proofs.Writing.{records_exactly}
 use Rattle.records.proofs.shape.next_record.Goals as goal
 
 pub returns-in_err-mark : goal.returns-in_err-mark
@@ -13,7 +13,7 @@ returns-in_err-mark c =
     (record {
       value = ap (λ (r : Result Mark ReaderFault). on_ok r (body_at c.args.file.now c.args.at)) c.in_err-mark.ensures;
       places = tt;
-      exact = records-exactly;
+      exact = records_exactly;
     })
 
 pub returns : goal.returns
@@ -21,5 +21,5 @@ returns c =
     record {
       value = c.body_at.ensures.value ∙ ap (λ (r : Result Mark ReaderFault). on_ok r (body_at c.args.file.now c.args.at)) c.in_ok-mark.ensures;
       places = c.body_at.ensures.places;
-      exact = records-exactly;
+      exact = records_exactly;
     }
