@@ -1,6 +1,6 @@
 -- Records that are accepted one by one are those of a lawful file.
 use Rattle.std.proofs.Common.{◌≡◌, ℕ, ◌+◌, ◌<◌, ◌≤◌, Bool, true, false, not, ltb, List, [], ◌∷◌, ◌++◌, map, length, MatchBool, sym, refl, ap, ◌∙◌, subst, arith}
-use Rattle.std.specs.List.{AllByRecursion as All}
+use Rattle.std.specs.List.{AllByRecursion}
 use Rattle.std.proofs.lemmas.List.{length_push}
 use Rattle.std.proofs.lemmas.Bool.{and_parts, and_from, ltb-true, ltb-false, lt-ltb, le-ltb, not-true, not_from_false}
 use Rattle.records.specs.Item.{Item, header, start, effect, need, pair, link, name, end, kind, is_end}
@@ -49,7 +49,7 @@ stands_ready s e =
     (ltb-true _ _ r.0, ltb-false _ _ (not-true _ r.1))
 
 -- parts and the end record that keep the rules, once every start word is read, are accepted
-accepted_parts : (s : Said) (parts : List Item) → All IsPart parts → Ready s → Follow s (parts ++ end ∷ []) → Accepted s (parts ++ end ∷ [])
+accepted_parts : (s : Said) (parts : List Item) → AllByRecursion IsPart parts → Ready s → Follow s (parts ++ end ∷ []) → Accepted s (parts ++ end ∷ [])
 accepted_parts s [] all r f = (admits s end (ready_stands s r) f.0, refl)
 accepted_parts s (x ∷ parts) all r f =
     let p = steady s x all.0 in
@@ -57,7 +57,7 @@ accepted_parts s (x ∷ parts) all r f =
     (admits s x (p.after ∙ ready_stands s r) f.0, rw p.goes_on (accepted_parts (said s x) parts all.1 ready f.1))
 
 -- and so are start words ahead of them, as many as are still to come
-accepted_starts : (s : Said) (words : List ℕ) (parts : List Item) → All IsPart parts → 0 < s.steps → length s.starts + length words ≡ s.signals
+accepted_starts : (s : Said) (words : List ℕ) (parts : List Item) → AllByRecursion IsPart parts → 0 < s.steps → length s.starts + length words ≡ s.signals
     → Follow s (map start words ++ (parts ++ end ∷ [])) → Accepted s (map start words ++ (parts ++ end ∷ []))
 accepted_starts s [] parts all h n f = accepted_parts s parts all (h, omega arith) f
 accepted_starts s (w ∷ words) parts all h n f = (
@@ -89,7 +89,7 @@ record Rest (s : Said) (xs : List Item) : Type 0 where
   parts : List Item
   whole : xs ≡ map start words ++ (parts ++ end ∷ [])
   started : length s.starts + length words ≡ s.signals
-  of_parts : All IsPart parts
+  of_parts : AllByRecursion IsPart parts
 
 -- a part ahead of the rest
 part_rest : (s : Said) (x : Item) (xs : List Item) → length s.starts ≤ s.signals → IsPart x → stands s (kind x) ≡ true → Rest (said s x) xs → Rest s (x ∷ xs)

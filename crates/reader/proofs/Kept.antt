@@ -1,6 +1,6 @@
 -- What the records of a file keep together, one by one.
 use Rattle.std.proofs.Common.{◌≡◌, ℕ, ◌<◌, ◌≤◌, true, false, eqb, ltb, List, [], ◌∷◌, ◌++◌, length, get_or, filter, sym, refl, ap, ◌∙◌, subst, inl, inr, arith}
-use Rattle.std.specs.List.{range_with_len, AllByRecursion as All}
+use Rattle.std.specs.List.{range_with_len, AllByRecursion}
 use Rattle.std.proofs.ByRecursion.{All-push, All-set, All-get_or, All-from_get_or, kept_by_passes}
 use Rattle.std.proofs.lemmas.List.{length_push, length-set, get_or_push, get_or_append_left}
 use Rattle.std.proofs.lemmas.Bool.{cases_eq, eqb-true, ltb-true, lt-ltb, and_parts, or_cases, not-true, both_ways, false≢true}
@@ -46,10 +46,10 @@ pub record Kept (s : Said) : Type 0 where
   pub signal_count : (1 ≤ s.signals) × (s.signals ≤ 64)
   pub start_count : length s.starts ≤ s.signals
   pub part_counts : (length s.effects ≤ 256) × (length s.needs ≤ 256) × (length s.pairs ≤ 512)
-  pub effects_kept : All (EffectFits s.steps s.signals) s.effects
+  pub effects_kept : AllByRecursion (EffectFits s.steps s.signals) s.effects
   pub effects_single : Single s.effects
-  pub needs_kept : All (NeedKept s.steps s.signals) s.needs
-  pub pairs_kept : All (PairFits s.steps) s.pairs
+  pub needs_kept : AllByRecursion (NeedKept s.steps s.signals) s.needs
+  pub pairs_kept : AllByRecursion (PairFits s.steps) s.pairs
   pub linked_apart : Apart (length s.needs) s.linked
   pub named_apart : Apart s.steps s.named
 
@@ -73,7 +73,7 @@ single_push es f fresh single j k below h same =
     ]
 
 -- what every number of a list passes
-mem_all : (P : ℕ → Type 0) (l : List ℕ) (j : ℕ) → All P l → mem j l ≡ true → P j
+mem_all : (P : ℕ → Type 0) (l : List ℕ) (j : ℕ) → AllByRecursion P l → mem j l ≡ true → P j
 mem_all P [] j a m = absurd (false≢true m)
 mem_all P (k ∷ l) j a m =
     elim (or_cases (eqb j k) (mem j l) m) [ inl same ↦ subst P (sym (eqb-true j k same)) a.0 | inr rest ↦ mem_all P l j a.1 rest ]

@@ -4,7 +4,7 @@
 --   Follow s xs  each of these records keeps the rules after what is said so far and those before it
 --   Lawful xs    these records make a whole file: one header, a start word for each signal, parts in any order, the end record
 use Rattle.std.specs.Prelude.{◌≡◌, ℕ, ◌<◌, ◌≤◌, false, List, [], ◌∷◌, ◌++◌, map, length, slice_index, slice_index_or}
-use Rattle.std.specs.List.{AllByRecursion as All}
+use Rattle.std.specs.List.{AllByRecursion}
 use Rattle.sheet.specs.Fit.{EffectFits, SameTarget, NeedFits, no_effect}
 use Rattle.sets.specs.Sets.{mem}
 use Rattle.records.specs.Item.{Item, header, start, effect, need, pair, link, name, end}
@@ -53,5 +53,5 @@ pub record Lawful (records : List Item) : Type 0 where
   pub parts : List Item
   pub whole : records ≡ header steps signals ∷ (map start words ++ (parts ++ end ∷ []))
   pub started : length words ≡ signals
-  pub of_parts : All IsPart parts
+  pub of_parts : AllByRecursion IsPart parts
   pub kept : Follow nothing records
