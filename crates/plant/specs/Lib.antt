@@ -1,6 +1,6 @@
 pub mod Difference
+pub mod Digits
 pub mod Meaning
 pub mod Plants
-pub mod Setting
-pub mod Digits
 pub mod Racks
+pub mod Setting

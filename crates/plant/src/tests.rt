@@ -69,14 +69,12 @@ fn check_row<P: Plant>(
     match (plant.write(signal, word), refused) {
         (Err(fault), Some(number)) => check_fault(rt, rule, fault, number, signal),
         (Ok(()), None) => {
-            let slot = held.get_mut(usize::from(signal)).ok_or("no such signal")?;
+            let slot = held.get_mut(usize::from(signal)).ok_or(rule)?;
             *slot = word;
         }
         (Err(_), None) | (Ok(()), Some(_)) => return Err(Fail::new(rule)),
     }
-    let words = held
-        .get(..usize::from(plant.count()))
-        .ok_or("too many signals")?;
+    let words = held.get(..usize::from(plant.count())).ok_or(rule)?;
     assert_eq!(rt; first_difference(plant, words), None, "{}", rule);
     Ok(())
 }

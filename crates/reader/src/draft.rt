@@ -1,5 +1,5 @@
 // The sheet that is being read, record by record.
-ghost use Rattle.std.specs.Prelude.{◌≡◌, ◌<◌, true, set, MatchOption, MatchResult, slice_index_or, slice_set};
+ghost use Rattle.std.specs.Prelude.{◌≡◌, true, MatchOption, MatchResult, slice_index_or, slice_set};
 ghost use Rattle.sheet.specs.Limits.{Limits, no_need};
 ghost use Rattle.sheet.specs.Model.{link_of};
 ghost use Rattle.sets.specs.Sets.{mem, rising};

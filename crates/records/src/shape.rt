@@ -1,5 +1,5 @@
 // The record at a place of a file: its mark, its fields, their limits, the rest of its bytes.
-ghost use Rattle.std.specs.Prelude.{◌≡◌, ◌+◌, ◌*◌, ◌<◌, length, Ok, Err};
+ghost use Rattle.std.specs.Prelude.{◌≡◌, ◌+◌, ◌<◌, length, Ok};
 ghost use Rattle.records.specs.declared.record.Mark.TheVariants as mark;
 ghost use Rattle.records.specs.Standing.{RecordsExactly};
 ghost use Rattle.records.specs.Shape.{whole, mark_of, mark_at, part_at, body_at, record_at, word_at};

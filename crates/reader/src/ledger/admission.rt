@@ -1,5 +1,5 @@
 // Testing a record against those before it, and noting it.
-ghost use Rattle.std.specs.Prelude.{◌≡◌, ℕ, ◌+◌, ◌<◌, ◌≤◌, true, List, None};
+ghost use Rattle.std.specs.Prelude.{◌≡◌, ℕ, ◌<◌, ◌≤◌, true, List, None};
 ghost use Rattle.records.specs.Item as item;
 ghost use Rattle.records.specs.Standing.{well_formed};
 ghost use Rattle.reader.specs.Lawful.{stands_after, objection, all_below};
