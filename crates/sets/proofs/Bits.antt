@@ -1,12 +1,15 @@
--- The bits of a number with one bit more, and lists of numbers that pass a test.
-use Rattle.std.proofs.Common.{◌≡◌, ℕ, zero, suc, ◌+◌, ◌-◌, ◌*◌, ◌/◌, ◌%◌, ◌^◌, ◌<◌, Bool, false, ◌||◌, eqb, ltb, ◌≢◌, ◌⊎◌, filter, sym, refl, ap, ◌∙◌, inl, inr, ⊎_elim, arith, pow_pos, pow-add}
-use native.Mathlib.Nat.{div_self, div-eq_of_lt, mul-mod_right}
+-- The bits of a number with one bit more, and the rising list of the numbers that pass a test.
+use Rattle.std.proofs.Common.{◌≡◌, ℕ, zero, suc, ◌+◌, ◌-◌, ◌*◌, ◌/◌, ◌%◌, ◌^◌, ◌<◌, ◌≤◌, Bool, true, false, if◌then◌else◌, ◌&&◌, ◌||◌, nat_lt, ◌==◌, List, [], ◌∷◌, ◌≢◌, ◌⊎◌, filter, All, sym, refl, ap, ◌∙◌, subst, inl, inr, ⊎_elim, arith, pow_pos, pow-add}
+use native.Mathlib.Nat.{div_self, div-eq_of_lt, mul-mod_right, mod-eq_of_lt, zero-div}
+use Rattle.std.proofs.Math.Pow.{shr_lt}
 use lib.Pow.{pow-lt, shl-shr}
-use lib.Bits.{bit_and, bit_or, and_mask, or_mod, or_shr}
+use lib.Bits.{bit_or, or_mod, or_shr}
 use Rattle.std.specs.List.{range_with_len}
-use Rattle.std.proofs.lemmas.Bool.{cases_order, cases_eq, eq-eqb, ne_eqb, and_right}
-use Rattle.std.proofs.lemmas.Nat.{one_shl}
-use Rattle.sets.specs.Sets.{bit, has, empty_set, rising}
+use Rattle.std.proofs.lemmas.Bool.{lt-ltb, le-ltb, cases_lt, cases_order, cases_eq, eq-eqb, eqb-true, ne_eqb, or_cases, or_left, false≢true}
+use Rattle.std.proofs.lemmas.List.Elements.{All-cons, All-nil}
+use Rattle.std.proofs.lemmas.Nat.{one_shl, or_lt, shr-shr}
+use Rattle.sets.specs.Sets.{added, bit, mem, ones, of_ones, rising}
+use Rattle.sets.specs.Ones.{bit-last, of_ones-from, of_ones-ones}
 
 -- a power of two has one bit
 pub pow_bit_same : (s : ℕ) → 2 ^ s / 2 ^ s % 2 ≡ 1
@@ -27,35 +30,32 @@ two zero h = inl refl
 two (suc zero) h = inr refl
 two (suc (suc n)) h = absurd (omega arith)
 
-or_low : (p q : ℕ) → p < 2 → q < 2 → eqb (bit_or p q) 1 ≡ (eqb q 1 || eqb p 1)
+or_low : (p q : ℕ) → p < 2 → q < 2 → (bit_or p q == 1) ≡ (q == 1 || p == 1)
 or_low p q hp hq =
     elim (two p hp) [
       | inl e ↦ rw e (elim (two q hq) [ inl f ↦ rw f | inr f ↦ rw f ])
       | inr e ↦ rw e (elim (two q hq) [ inl f ↦ rw f | inr f ↦ rw f ])
     ]
 
-bit_mod : (m i : ℕ) → bit m i ≡ eqb ((m / 2 ^ i) % 2) 1
-bit_mod m i = ap (λ (n : ℕ). eqb n 1) (and_mask (m / 2 ^ i) 1)
-
 bit-bit_or : (a b i : ℕ) → bit (bit_or a b) i ≡ (bit b i || bit a i)
 bit-bit_or a b i =
-    bit_mod (bit_or a b) i
-    ∙ ap (λ (n : ℕ). eqb (n % 2) 1) (or_shr a b i)
-    ∙ ap (λ (n : ℕ). eqb n 1) (or_mod (a / 2 ^ i) (b / 2 ^ i) 1)
+    bit-last (bit_or a b) i
+    ∙ ap (λ (n : ℕ). n % 2 == 1) (or_shr a b i)
+    ∙ ap (λ (n : ℕ). n == 1) (or_mod (a / 2 ^ i) (b / 2 ^ i) 1)
     ∙ or_low ((a / 2 ^ i) % 2) ((b / 2 ^ i) % 2) (omega arith) (omega arith)
-    ∙ ap (λ (t : Bool). t || eqb ((a / 2 ^ i) % 2) 1) (sym (bit_mod b i))
-    ∙ ap (λ (t : Bool). bit b i || t) (sym (bit_mod a i))
+    ∙ ap (λ (t : Bool). t || (a / 2 ^ i) % 2 == 1) (sym (bit-last b i))
+    ∙ ap (λ (t : Bool). bit b i || t) (sym (bit-last a i))
 
-bit-pow : (s k : ℕ) → bit (2 ^ s) k ≡ eqb k s
+bit-pow : (s k : ℕ) → bit (2 ^ s) k ≡ (k == s)
 bit-pow s k =
-    bit_mod (2 ^ s) k
+    bit-last (2 ^ s) k
     ∙ elim (cases_eq k s) [
-      | inl e ↦ rw e (ap (λ (n : ℕ). eqb n 1) (pow_bit_same s) ∙ sym (eq-eqb s s refl))
-      | inr ne ↦ ap (λ (n : ℕ). eqb n 1) (pow_bit_other s k ne) ∙ sym (ne_eqb k s ne)
+      | inl e ↦ rw e (ap (λ (n : ℕ). n == 1) (pow_bit_same s) ∙ sym (eq-eqb s s refl))
+      | inr ne ↦ ap (λ (n : ℕ). n == 1) (pow_bit_other s k ne) ∙ sym (ne_eqb k s ne)
     ]
 
 -- one bit more
-pub bit_more : (m s k : ℕ) → s < 64 → bit (bit_or m ((1 * 2 ^ s) % 2 ^ 64)) k ≡ (eqb k s || bit m k)
+bit_more : (m s k : ℕ) → s < 64 → bit (bit_or m ((1 * 2 ^ s) % 2 ^ 64)) k ≡ (k == s || bit m k)
 bit_more m s k h =
     ap (λ (n : ℕ). bit (bit_or m n) k) (one_shl s 64 h) ∙ bit-bit_or m (2 ^ s) k ∙ ap (λ (t : Bool). t || bit m k) (bit-pow s k)
 
@@ -70,6 +70,133 @@ pub rising_same : (p q : ℕ → Bool) → ((k : ℕ) → k < 64 → p k ≡ q k
 unfolding rising
 rising_same p q same = kept_same p q 0 64 (λ k h. same k (omega arith))
 
--- nothing is in the empty set
-pub empty_has : (k : ℕ) → has empty_set k ≡ false
-empty_has k = and_right (ltb k 64) (bit 0 k) (ap (λ (n : ℕ). eqb (bit_and n 1) 1) (div-eq_of_lt (pow_pos k)))
+mem_out : (p : ℕ → Bool) (j a n : ℕ) → ((k : ℕ) → a ≤ k → k < a + n → j ≢ k) → mem j (filter p (range_with_len a n)) ≡ false
+mem_out p j a zero out = refl
+mem_out p j a (suc n) out =
+    let more = filter p (range_with_len (a + 1) n) in
+    let rest : mem j more ≡ false = mem_out p j (a + 1) n (λ k low high. out k (omega arith) (omega arith)) in
+    elim (p a) as (λ b. mem j (if b then a ∷ more else more) ≡ false)
+    [ true ↦ rw (ne_eqb j a (out a (omega arith) (omega arith))) rest | false ↦ rest ]
+
+mem_kept : (p : ℕ → Bool) (j a n : ℕ) → a ≤ j → j < a + n → mem j (filter p (range_with_len a n)) ≡ p j
+mem_kept p j a zero low high = absurd (omega arith)
+mem_kept p j a (suc n) low high =
+    let more = filter p (range_with_len (a + 1) n) in
+    elim (cases_eq j a) [
+      | inl same ↦
+          rw same
+          (elim (p a) as (λ b. mem a (if b then a ∷ more else more) ≡ b)
+          [ true ↦ or_left (a == a) _ (eq-eqb a a refl) | false ↦ mem_out p a (a + 1) n (λ k after _ e. absurd (omega arith)) ])
+      | inr other ↦
+          let rest : mem j more ≡ p j = mem_kept p j (a + 1) n (omega arith) (omega arith) in
+          elim (p a) as (λ b. mem j (if b then a ∷ more else more) ≡ p j)
+          [ true ↦ rw (ne_eqb j a other) rest | false ↦ rest ]
+    ]
+
+-- a number is in the list exactly if it passes the test
+pub mem-rising : (p : ℕ → Bool) (k : ℕ) → k < 64 → mem k (rising p) ≡ p k
+unfolding rising
+mem-rising p k h = mem_kept p k 0 64 (omega arith) (omega arith)
+
+pub mem-rising_past : (p : ℕ → Bool) (k : ℕ) → 64 ≤ k → mem k (rising p) ≡ false
+unfolding rising
+mem-rising_past p k h = mem_out p k 0 64 (λ j _ inside e. absurd (omega arith))
+
+-- a member of a mask's set is a place below 64 that has a one
+pub mem_of_mask : (k m : ℕ) → mem k (ones m) ≡ (nat_lt k 64 && bit m k)
+mem_of_mask k m =
+    elim (cases_lt k 64) [
+      | inl h ↦ rw (lt-ltb k 64 h) (mem-rising (bit m) k h)
+      | inr past ↦ rw (le-ltb k 64 past) (mem-rising_past (bit m) k past)
+    ]
+
+-- a number of which no bit is set is 0
+pub no_ones : (m : ℕ) → m < 2 ^ 64 → ones m ≡ [] → m ≡ 0
+no_ones m small none = sym (of_ones-ones m small) ∙ ap of_ones none
+
+pub ones_of_none : ones 0 ≡ []
+unfolding rising
+ones_of_none = refl
+
+-- a mask with one bit more, and its set
+module _ (m i : ℕ) (inside : i < 64) where
+  pub small_more : m < 2 ^ 64 → bit_or m ((1 * 2 ^ i) % 2 ^ 64) < 2 ^ 64
+  small_more small = or_lt 64 m _ small (omega arith)
+
+  pub ones_more : ones (bit_or m ((1 * 2 ^ i) % 2 ^ 64)) ≡ added (ones m) i
+  ones_more =
+      rw (lt-ltb i 64 inside)
+      (rising_same _ _ (λ k h. bit_more m i k inside ∙ ap (λ (t : Bool). k == i || t) (sym (mem-rising (bit m) k h))))
+
+  pub mem_of_more : (k : ℕ) → k < 64 → mem k (ones (bit_or m ((1 * 2 ^ i) % 2 ^ 64))) ≡ (k == i || mem k (ones m))
+  mem_of_more k h =
+      ap (mem k) ones_more ∙ rw (lt-ltb i 64 inside) (mem-rising (λ j. j == i || mem j (ones m)) k h)
+
+kept_none : (p : ℕ → Bool) (a n : ℕ) → ((k : ℕ) → a ≤ k → k < a + n → p k ≡ false) → filter p (range_with_len a n) ≡ []
+kept_none p a zero none = refl
+kept_none p a (suc n) none =
+    rw (none a (omega arith) (omega arith)) (kept_none p (a + 1) n (λ k low high. none k (omega arith) (omega arith)))
+
+kept_all : (P : ℕ → Type 0) (p : ℕ → Bool) (a n : ℕ) → ((k : ℕ) → a ≤ k → k < a + n → p k ≡ true → P k) → All P (filter p (range_with_len a n))
+kept_all P p a zero each = All-nil P
+kept_all P p a (suc n) each = go (p a) refl (kept_all P p (a + 1) n (λ k low high e. each k (omega arith) (omega arith) e))
+  where
+    more : List ℕ
+    more = filter p (range_with_len (a + 1) n)
+
+    go : (b : Bool) → p a ≡ b → All P more → All P (if b then a ∷ more else more)
+    go true e rest = All-cons P a more (each a (omega arith) (omega arith) e) rest
+    go false e rest = rest
+
+mem_passes : (P : ℕ → Type 0) (xs : List ℕ) (k : ℕ) → All P xs → mem k xs ≡ true → P k
+mem_passes P [] k all e = absurd (false≢true e)
+mem_passes P (x ∷ xs) k all e =
+    elim (or_cases (k == x) (mem k xs) e) [
+      | inl same ↦ subst P (sym (eqb-true k x same)) (all 0 x (omega arith))
+      | inr rest ↦ mem_passes P xs k (λ i d h. all (suc i) d (omega arith)) rest
+    ]
+
+product_zero : (q p : ℕ) → 0 < p → q * p ≡ 0 → q ≡ 0
+product_zero zero p some e = refl
+product_zero (suc q) p some e = absurd (omega arith)
+
+-- a place past which nothing is left of a number has no one
+no_one : (m b k : ℕ) → m / 2 ^ b ≡ 0 → b ≤ k → bit m k ≡ false
+no_one m b k none past =
+    let e : b + (k - b) ≡ k = omega arith in
+    let nothing : m / 2 ^ k ≡ 0 = ap (λ (j : ℕ). m / 2 ^ j) (sym e) ∙ sym (shr-shr m b (k - b)) ∙ rw none (zero-div (2 ^ (k - b))) in
+    bit-last m k ∙ ap (λ (n : ℕ). n % 2 == 1) nothing
+
+-- all members of a mask's set are below b exactly if nothing is left of the mask when it is shifted by b
+module _ (m b : ℕ) (small : m < 2 ^ 64) (inside : b < 64) where
+  pub nothing_left_below : All (λ k. k < b) (ones m) → m / 2 ^ b ≡ 0
+  nothing_left_below below =
+      let whole : (64 - b) + b ≡ 64 = omega arith in
+      let left : m / 2 ^ b < 2 ^ (64 - b) = shr_lt (64 - b) b (rw whole small) in
+      let empty : filter (bit m) (range_with_len b (64 - b)) ≡ [] = kept_none (bit m) b (64 - b) (λ k low high. none k low (omega arith) (bit m k) refl) in
+      let zero_left = product_zero (m / 2 ^ b % 2 ^ (64 - b)) (2 ^ b) (pow_pos b) (sym (of_ones-from m b (64 - b)) ∙ ap of_ones empty) in
+      sym (mod-eq_of_lt left) ∙ zero_left
+    where
+      none : (k : ℕ) → b ≤ k → k < 64 → (t : Bool) → bit m k ≡ t → t ≡ false
+      none k low high false e = refl
+      none k low high true e =
+          let under : k < b = mem_passes (λ j. j < b) (ones m) k below (mem-rising (bit m) k high ∙ e) in
+          absurd (omega arith)
+
+  pub below_nothing_left : m / 2 ^ b ≡ 0 → All (λ k. k < b) (ones m)
+  unfolding rising
+  below_nothing_left none = kept_all (λ k. k < b) (bit m) 0 64 (λ k low high e. under k e)
+    where
+      under : (k : ℕ) → bit m k ≡ true → k < b
+      under k e =
+          elim (cases_lt k b) [
+            | inl h ↦ h
+            | inr past ↦ absurd (false≢true (sym (no_one m b k none past) ∙ e))
+          ]
+
+-- all members of a set are below 64
+pub below_64 : (m : ℕ) → All (λ k. k < 64) (ones m)
+unfolding rising
+below_64 m = kept_all (λ k. k < 64) (bit m) 0 64 (λ k low high e. high)
+
+pub ruleset set_facts = (ones_of_none, no_ones, below_64, nothing_left_below, below_nothing_left, mem_of_mask, small_more, ones_more, mem_of_more)

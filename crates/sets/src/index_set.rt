@@ -1,35 +1,59 @@
 // A set of numbers below 64: steps or signals.
-ghost use Rattle.std.specs.Prelude.{◌≡◌, ℕ, ◌<◌, ◌||◌, ◌==◌};
-ghost use Rattle.sets.specs.Sets.{has, empty_set, added};
+ghost use Rattle.std.specs.Prelude.{◌≡◌, ℕ, ◌<◌, ◌^◌, ◌↔◌, [], List, ◌||◌, ◌==◌, IsTrue, All};
+ghost use Rattle.sets.specs.Sets.{mem, added, ones, of_ones};
+ghost use Rattle.sets.specs.Ones.{of_ones-ones};
+ghost use Rattle.std.proofs.Common.{ap};
 
+use std::marker::Model;
+
+// Its bits are packed; a contract sees the rising list of its members.
 #[derive(Clone, Copy)]
 pub struct IndexSet {
     mask: u64,
 }
 
+impl Model for IndexSet {
+    ghost Value = { List ℕ };
+
+    ghost view = { λ s. ones s.mask };
+
+    ghost invariant = { λ s. s.mask < 2 ^ 64 };
+
+    ghost inverse = { λ s. record { mask = of_ones s } };
+
+    ghost inverse_ok = { λ s small. ap (λ (m : ℕ). record { mask = m }) (of_ones-ones s.mask small) };
+}
+
+#[tactic(auto, using(crate::proofs::Bits::set_facts))]
 impl IndexSet {
     pub fn empty() -> IndexSet
-        ensures { result ≡ empty_set }
+        ensures { result ≡ [] }
     {
         IndexSet { mask: 0 }
     }
 
     pub fn contains(self, index: u8) -> bool
-        ensures { result ≡ has self index }
+        ensures { result ≡ mem index self }
     {
         index < 64 && (self.mask >> index) & 1 == 1
     }
 
     pub fn is_empty(self) -> bool
-        ensures { result ≡ (self.mask == 0) }
+        ensures { IsTrue result ↔ (self ≡ []) }
     {
         self.mask == 0
+    }
+
+    pub fn is_below(self, bound: u8) -> bool
+        ensures { IsTrue result ↔ All (λ k. k < bound) self }
+    {
+        bound >= 64 || self.mask >> bound == 0
     }
 
     // The set with one number more; a number past 63 adds nothing.
     pub fn with(self, index: u8) -> IndexSet
         ensures value { result ≡ added self index }
-        ensures has { (k : ℕ) → k < 64 → has result k ≡ (k == index || has self k) }
+        ensures has { (k : ℕ) → k < 64 → mem k result ≡ (k == index || mem k self) }
     {
         if index >= 64 {
             return self;

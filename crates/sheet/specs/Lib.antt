@@ -1,4 +1,4 @@
 pub mod Fit
+pub mod Keeping
 pub mod Limits
 pub mod Model
-pub mod View

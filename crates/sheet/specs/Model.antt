@@ -1,15 +1,14 @@
 -- A sheet as a record of lists.
---   Need       a need; its link is the list of its contributors in rising order, and the empty list where it has none
---   Sheet      the steps' number, the start word of each signal, the effects, needs and pairs in file order
---   link_of l  the contributors of a link
---   need_of n  the need that the code holds
---   model_of   the sheet of these parts, as the code holds them
-use Rattle.std.specs.Prelude.{ℕ, List, [], map, Some, None, Option}
-use Rattle.sets.specs.Sets.{members}
+--   Need        a need; its link is the list of its contributors in rising order, and the empty list where it has none
+--   Sheet       the steps' number, the start word of each signal, the effects, needs and pairs in file order
+--   link_of l   the contributors of a link
+--   need_of n   the need that the code holds
+--   sheet_of p  the sheet of these parts, as the code holds them
+use Rattle.std.specs.Prelude.{ℕ, List, [], map, Some, None, Option, vec_items}
 use Rattle.sheet.specs.declared.parts.Effect.{Effect}
 use Rattle.sheet.specs.declared.parts.Pair.{Pair}
-use Rattle.sheet.specs.declared.parts.Link.{Link}
 use Rattle.sheet.specs.declared.parts.Need.{Need as HeldNeed}
+use Rattle.sheet.specs.declared.parts.Parts.{Parts}
 
 pub record Need : Type 0 where
   pub step : ℕ
@@ -25,13 +24,13 @@ pub record Sheet : Type 0 where
   pub needs : List Need
   pub pairs : List Pair
 
-abbrev pub link_of : Option Link → List ℕ
+abbrev pub link_of : Option (List ℕ) → List ℕ
 link_of None = []
-link_of (Some l) = members l.contributors
+link_of (Some contributors) = contributors
 
 abbrev pub need_of : HeldNeed → Need
 need_of n = record { step = n.step; signal = n.signal; a = n.a; b = n.b; link = link_of n.link }
 
-abbrev pub model_of : ℕ → List ℕ → List Effect → List HeldNeed → List Pair → Sheet
-model_of n starts effects needs pairs =
-    record { steps = n; starts = starts; effects = effects; needs = map need_of needs; pairs = pairs }
+abbrev pub sheet_of : Parts → Sheet
+sheet_of p =
+    record { steps = p.steps; starts = vec_items p.starts; effects = vec_items p.effects; needs = map need_of (vec_items p.needs); pairs = vec_items p.pairs }

@@ -1,6 +1,7 @@
 //! A sheet and its parts.
 #![tactic(auto)]
 
+mod fit;
 pub mod parts;
 pub mod sheet;
 #[cfg(test)]

@@ -1,7 +1,9 @@
 // The parts of a sheet: effects, needs with their links, and pairs.
-ghost use Rattle.std.specs.Prelude.{◌≡◌, ◌<◌, MatchOption};
+ghost use Rattle.std.specs.Prelude.{◌≡◌, ◌≢◌, ℕ, List, [], ◌↔◌, IsTrue, IsNone, IfSome};
+ghost use Rattle.sheet.specs.Fit.{LinkFits};
 
 use sets::index_set::IndexSet;
+use std::marker::Model;
 
 // What a step does to a signal: it sets it to a word.
 #[derive(Clone, Copy)]
@@ -15,13 +17,23 @@ pub struct Effect {
 #[derive(Clone, Copy)]
 pub struct Link {
     contributors: IndexSet,
-    ghost some: { 0 < contributors.mask },
+}
+
+impl Model for Link {
+    ghost Value = { List ℕ };
+
+    ghost view = { λ l. l.contributors };
+
+    ghost invariant = { λ l. l.contributors ≢ [] };
+
+    ghost inverse = { λ contributors. record { contributors = contributors } };
 }
 
 impl Link {
     // The link with these contributors; no step at all makes no link.
     pub fn new(contributors: IndexSet) -> Option<Link>
-        ensures { MatchOption result (contributors.mask ≡ 0) (λ l. l.contributors ≡ contributors) }
+        ensures none { IsNone result ↔ (contributors ≡ []) }
+        ensures value { IfSome result (λ link. link ≡ contributors) }
     {
         if contributors.is_empty() {
             return None;
@@ -30,7 +42,8 @@ impl Link {
     }
 
     pub fn contributors(self) -> IndexSet
-        ensures { result ≡ self.contributors }
+        ensures value { result ≡ self }
+        ensures some { self ≢ [] }
     {
         self.contributors
     }
@@ -51,4 +64,14 @@ pub struct Need {
 pub struct Pair {
     pub earlier: u8,
     pub later: u8,
+}
+
+// Step 0 is the start and the last step is the finish. The start words are the words that the start sets.
+#[derive(Drop)]
+pub struct Parts {
+    pub steps: u8,
+    pub starts: Vec<u16>,
+    pub effects: Vec<Effect>,
+    pub needs: Vec<Need>,
+    pub pairs: Vec<Pair>,
 }

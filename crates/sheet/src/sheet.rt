@@ -1,27 +1,75 @@
 // A sheet: the steps of a start, a change-over or a clearing, and what each needs and sets.
-ghost use Rattle.std.specs.Prelude.{◌≡◌, ℕ, ◌<◌, ◌≤◌, true, vec_len, slice_index_or};
-ghost use Rattle.sheet.specs.Fit.{EffectFits, SameTarget, NeedFits, PairFits, link_has, no_effect, no_need, no_pair};
+ghost use Rattle.std.specs.Prelude.{◌≡◌, map, MatchOption};
+ghost use Rattle.sheet.specs.Limits.{Limits};
+ghost use Rattle.sheet.specs.Model.{need_of, sheet_of};
 
-use crate::parts::{Effect, Need, Pair};
+use crate::parts::{Effect, Need, Pair, Parts};
+use std::marker::Model;
 
-pub mod access;
-pub mod building;
-
-// Step 0 is the start and the last step is the finish. The start words are the words that the start sets.
-// The ghost fields are the limits that every sheet keeps, so that no call on a sheet tests them.
+// Parts that keep every limit, so that no call on a sheet tests them.
 #[derive(Drop)]
 pub struct Sheet {
-    steps: u8,
-    starts: Vec<u16>,
-    effects: Vec<Effect>,
-    needs: Vec<Need>,
-    pairs: Vec<Pair>,
-    ghost step_count: { (2 ≤ steps) × (steps ≤ 64) },
-    ghost signal_count: { (1 ≤ vec_len starts) × (vec_len starts ≤ 64) },
-    ghost part_counts: { (vec_len effects ≤ 256) × (vec_len needs ≤ 256) × (vec_len pairs ≤ 512) },
-    ghost effects_fit: { (k : ℕ) → k < vec_len effects → EffectFits steps (vec_len starts) (slice_index_or effects.items k no_effect) },
-    ghost effects_single: { (j k : ℕ) → j < k → k < vec_len effects → SameTarget (slice_index_or effects.items j no_effect) (slice_index_or effects.items k no_effect) → ⊥ },
-    ghost needs_fit: { (k : ℕ) → k < vec_len needs → NeedFits steps (vec_len starts) (slice_index_or needs.items k no_need).step (slice_index_or needs.items k no_need).signal },
-    ghost links_fit: { (k j : ℕ) → k < vec_len needs → link_has (slice_index_or needs.items k no_need).link j ≡ true → j < steps },
-    ghost pairs_fit: { (k : ℕ) → k < vec_len pairs → PairFits steps (slice_index_or pairs.items k no_pair) },
+    parts: Parts,
+}
+
+impl Model for Sheet {
+    ghost use Rattle.sheet.specs.Limits.{Limits};
+    ghost use Rattle.sheet.specs.Model as model;
+
+    ghost Value = { model.Sheet };
+
+    ghost view = { λ s. model.sheet_of s.parts };
+
+    ghost invariant = { λ s. Limits (model.sheet_of s.parts) };
+}
+
+impl Sheet {
+    // The sheet of these parts, exactly if they keep every limit.
+    pub fn new(parts: Parts) -> Option<Sheet>
+        ensures { MatchOption result
+            (Limits (sheet_of parts) → ⊥)
+            (λ sheet. (sheet ≡ sheet_of parts) × Limits (sheet_of parts)) }
+    {
+        if parts.fit() {
+            Some(Sheet { parts })
+        } else {
+            None
+        }
+    }
+
+    pub fn steps(&self) -> u8
+        ensures value { result ≡ self.now.steps }
+        ensures limits { Limits self.now }
+    {
+        self.parts.steps
+    }
+
+    // The start word of each signal.
+    pub fn starts(&self) -> &[u16]
+        ensures value { result.now ≡ self.now.starts }
+        ensures limits { Limits self.now }
+    {
+        self.parts.starts.as_slice()
+    }
+
+    pub fn effects(&self) -> &[Effect]
+        ensures value { result.now ≡ self.now.effects }
+        ensures limits { Limits self.now }
+    {
+        self.parts.effects.as_slice()
+    }
+
+    pub fn needs(&self) -> &[Need]
+        ensures value { map need_of result.now ≡ self.now.needs }
+        ensures limits { Limits self.now }
+    {
+        self.parts.needs.as_slice()
+    }
+
+    pub fn pairs(&self) -> &[Pair]
+        ensures value { result.now ≡ self.now.pairs }
+        ensures limits { Limits self.now }
+    {
+        self.parts.pairs.as_slice()
+    }
 }

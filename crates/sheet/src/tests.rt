@@ -1,5 +1,5 @@
 // The limits of a sheet from both sides.
-use crate::parts::{Effect, Link, Need, Pair};
+use crate::parts::{Effect, Link, Need, Pair, Parts};
 use crate::sheet::Sheet;
 use sets::index_set::IndexSet;
 use std::alloc::{AllocError, Global};
@@ -40,146 +40,91 @@ const LIMITS: [Row; 15] = [
         need: (63, 63),
         contributor: 63,
         pair: (63, 0),
-        made: true,
+        ..SOUND
     },
     Row {
         what: "65 steps",
         steps: 65,
-        signals: 1,
-        effect: (1, 0),
-        need: (2, 0),
-        contributor: 2,
-        pair: (2, 2),
         made: false,
+        ..SOUND
     },
     Row {
         what: "no signal",
-        steps: 3,
         signals: 0,
-        effect: (1, 0),
-        need: (2, 0),
-        contributor: 2,
-        pair: (2, 2),
         made: false,
+        ..SOUND
     },
     Row {
         what: "65 signals",
-        steps: 3,
         signals: 65,
-        effect: (1, 0),
-        need: (2, 0),
-        contributor: 2,
-        pair: (2, 2),
         made: false,
+        ..SOUND
     },
     Row {
         what: "an effect of the start",
-        steps: 3,
-        signals: 1,
         effect: (0, 0),
-        need: (2, 0),
-        contributor: 2,
-        pair: (2, 2),
         made: false,
+        ..SOUND
     },
     Row {
         what: "an effect of the finish",
-        steps: 3,
-        signals: 1,
         effect: (2, 0),
-        need: (2, 0),
-        contributor: 2,
-        pair: (2, 2),
         made: false,
+        ..SOUND
     },
     Row {
         what: "an effect on no signal",
-        steps: 3,
-        signals: 1,
         effect: (1, 1),
-        need: (2, 0),
-        contributor: 2,
-        pair: (2, 2),
         made: false,
+        ..SOUND
     },
     Row {
         what: "a need of the start",
-        steps: 3,
-        signals: 1,
-        effect: (1, 0),
         need: (0, 0),
-        contributor: 2,
-        pair: (2, 2),
         made: false,
+        ..SOUND
     },
     Row {
         what: "a need of no step",
-        steps: 3,
-        signals: 1,
-        effect: (1, 0),
         need: (3, 0),
-        contributor: 2,
-        pair: (2, 2),
         made: false,
+        ..SOUND
     },
     Row {
         what: "a need on no signal",
-        steps: 3,
-        signals: 1,
-        effect: (1, 0),
         need: (2, 1),
-        contributor: 2,
-        pair: (2, 2),
         made: false,
+        ..SOUND
     },
     Row {
         what: "a contributor that is no step",
-        steps: 3,
-        signals: 1,
-        effect: (1, 0),
-        need: (2, 0),
         contributor: 3,
-        pair: (2, 2),
         made: false,
+        ..SOUND
     },
     Row {
         what: "no contributor",
-        steps: 3,
-        signals: 1,
-        effect: (1, 0),
-        need: (2, 0),
         contributor: 64,
-        pair: (2, 2),
-        made: true,
+        ..SOUND
     },
     Row {
         what: "a pair from no step",
-        steps: 3,
-        signals: 1,
-        effect: (1, 0),
-        need: (2, 0),
-        contributor: 2,
         pair: (3, 2),
         made: false,
+        ..SOUND
     },
     Row {
         what: "a pair to no step",
-        steps: 3,
-        signals: 1,
-        effect: (1, 0),
-        need: (2, 0),
-        contributor: 2,
         pair: (2, 3),
         made: false,
+        ..SOUND
     },
 ];
 
 // The sheet of a row, with the effect as often as said.
 fn sheet_of(heap: Global, row: &Row, copies: u8) -> Result<Option<Sheet>, AllocError> {
     let mut starts = Vec::new(heap);
-    for _ in 0..row.signals {
-        starts.push(0)?;
-    }
+    starts.resize(usize::from(row.signals), 0)?;
     let mut effects = Vec::new(heap);
     for _ in 0..copies {
         effects.push(Effect {
@@ -202,7 +147,13 @@ fn sheet_of(heap: Global, row: &Row, copies: u8) -> Result<Option<Sheet>, AllocE
         earlier: row.pair.0,
         later: row.pair.1,
     })?;
-    Ok(Sheet::new(row.steps, starts, effects, needs, pairs))
+    Ok(Sheet::new(Parts {
+        steps: row.steps,
+        starts,
+        effects,
+        needs,
+        pairs,
+    }))
 }
 
 #[test]
