@@ -1,6 +1,6 @@
 -- Records that are accepted one by one are those of a lawful file.
-use Rattle.std.proofs.Common.{◌≡◌, ℕ, ◌+◌, ◌<◌, ◌≤◌, Bool, true, false, not, ltb, List, [], ◌∷◌, ◌++◌, map, length, MatchBool, sym, refl, ap, ◌∙◌, subst, arith}
-use Rattle.std.specs.List.{AllByRecursion}
+use Rattle.std.proofs.Common.{◌≡◌, ℕ, ◌+◌, ◌<◌, ◌≤◌, Bool, true, false, not, ltb, List, [], ◌∷◌, ◌++◌, map, length, MatchBool, All, sym, refl, ap, ◌∙◌, subst, arith}
+use Rattle.std.proofs.lemmas.List.Elements.{All-cons, All-head, All-nil, All-tail}
 use Rattle.std.proofs.lemmas.List.{length_push}
 use Rattle.std.proofs.lemmas.Bool.{and_parts, and_from, ltb-true, ltb-false, lt-ltb, le-ltb, not-true, not_from_false}
 use Rattle.records.specs.Item.{Item, header, start, effect, need, pair, link, name, end, kind, is_end}
@@ -49,15 +49,15 @@ stands_ready s e =
     (ltb-true _ _ r.0, ltb-false _ _ (not-true _ r.1))
 
 -- parts and the end record that keep the rules, once every start word is read, are accepted
-accepted_parts : (s : Said) (parts : List Item) → AllByRecursion IsPart parts → Ready s → Follow s (parts ++ end ∷ []) → Accepted s (parts ++ end ∷ [])
+accepted_parts : (s : Said) (parts : List Item) → All IsPart parts → Ready s → Follow s (parts ++ end ∷ []) → Accepted s (parts ++ end ∷ [])
 accepted_parts s [] all r f = (admits s end (ready_stands s r) f.0, refl)
 accepted_parts s (x ∷ parts) all r f =
-    let p = steady s x all.0 in
+    let p = steady s x (All-head IsPart x parts all) in
     let ready : Ready (said s x) = (omega (arith, p.steps), omega (arith, p.signals, ap length p.starts)) in
-    (admits s x (p.after ∙ ready_stands s r) f.0, rw p.goes_on (accepted_parts (said s x) parts all.1 ready f.1))
+    (admits s x (p.after ∙ ready_stands s r) f.0, rw p.goes_on (accepted_parts (said s x) parts (All-tail IsPart x parts all) ready f.1))
 
 -- and so are start words ahead of them, as many as are still to come
-accepted_starts : (s : Said) (words : List ℕ) (parts : List Item) → AllByRecursion IsPart parts → 0 < s.steps → length s.starts + length words ≡ s.signals
+accepted_starts : (s : Said) (words : List ℕ) (parts : List Item) → All IsPart parts → 0 < s.steps → length s.starts + length words ≡ s.signals
     → Follow s (map start words ++ (parts ++ end ∷ [])) → Accepted s (map start words ++ (parts ++ end ∷ []))
 accepted_starts s [] parts all h n f = accepted_parts s parts all (h, omega arith) f
 accepted_starts s (w ∷ words) parts all h n f = (
@@ -89,7 +89,7 @@ record Rest (s : Said) (xs : List Item) : Type 0 where
   parts : List Item
   whole : xs ≡ map start words ++ (parts ++ end ∷ [])
   started : length s.starts + length words ≡ s.signals
-  of_parts : AllByRecursion IsPart parts
+  of_parts : All IsPart parts
 
 -- a part ahead of the rest
 part_rest : (s : Said) (x : Item) (xs : List Item) → length s.starts ≤ s.signals → IsPart x → stands s (kind x) ≡ true → Rest (said s x) xs → Rest s (x ∷ xs)
@@ -99,7 +99,7 @@ part_rest s x xs h p e r =
     go r.words r.whole (omega (arith, r.started, d.signals, ap length d.starts)) (omega arith)
   where
     go : (words : List ℕ) → xs ≡ map start words ++ (r.parts ++ end ∷ []) → length s.starts + length words ≡ s.signals → s.signals ≤ length s.starts → Rest s (x ∷ xs)
-    go [] same n ready = record { words = []; parts = x ∷ r.parts; whole = ap (λ (l : List Item). x ∷ l) same; started = n; of_parts = (p, r.of_parts) }
+    go [] same n ready = record { words = []; parts = x ∷ r.parts; whole = ap (λ (l : List Item). x ∷ l) same; started = n; of_parts = All-cons IsPart x r.parts p r.of_parts }
     go (w ∷ words) same n ready = absurd (omega arith)
 
 -- accepted records after the header are such a rest
@@ -118,7 +118,7 @@ rest s (link m cs ∷ xs) h n a = part_rest s (link m cs) xs n tt a.0.placed (re
 rest s (name w bs ∷ xs) h n a = part_rest s (name w bs) xs n tt a.0.placed (rest (said s (name w bs)) xs h n a.1)
 rest s (end ∷ xs) h n a =
     let ready = stands_ready s a.0.placed in
-    record { words = []; parts = []; whole = ap (λ (l : List Item). end ∷ l) a.1; started = omega arith; of_parts = tt }
+    record { words = []; parts = []; whole = ap (λ (l : List Item). end ∷ l) a.1; started = omega arith; of_parts = All-nil IsPart }
 
 -- accepted records that begin with a header are those of a lawful file
 lawful_header : (n v : ℕ) (xs : List Item) → Accepted nothing (header n v ∷ xs) → Lawful (header n v ∷ xs)

@@ -1,13 +1,15 @@
 -- A record passes its tests exactly if it keeps the rules.
-use Rattle.std.proofs.Common.{◌≡◌, ℕ, zero, suc, ◌<◌, ◌≤◌, Bool, true, false, not, ◌&&◌, eqb, ltb, leb, List, [], ◌∷◌, length, get_or, None, Option, refl, ◌∙◌, inl, inr, arith}
+use Rattle.std.proofs.Common.{◌≡◌, ℕ, suc, ◌<◌, ◌≤◌, Bool, true, false, not, ◌&&◌, nat_lt, ◌==◌, ltb, leb, List, [], ◌∷◌, length, None, Option, All, refl, ◌∙◌, inl, inr, arith}
+use Rattle.std.specs.List.{list_all}
+use Rattle.std.proofs.lemmas.List.Elements.{All-cons, All-head, All-nil, All-tail}
 use Rattle.std.proofs.lemmas.Bool.{eq-eqb, eqb-true, leb-true, le-leb, ltb-true, lt-ltb, and_parts, and_from, or_parts, or_from, not-true, not_from_false, cases_Bool, both_ways, cond-true}
 use Rattle.faults.specs.declared.fault.Cause.{Cause}
 use Rattle.sheet.specs.declared.parts.Effect.{Effect}
-use Rattle.sheet.specs.Fit.{SameTarget, no_effect}
+use Rattle.sheet.specs.Fit.{SameTarget}
 use Rattle.sets.specs.Sets.{mem}
 use Rattle.records.specs.Item.{Item, header, start, effect, need, pair, link, name, end, kind}
 use Rattle.records.specs.Standing.{well_formed}
-use Rattle.reader.specs.Lawful.{unless, sets, all_below, stands, objection, Admissible}
+use Rattle.reader.specs.Lawful.{unless, sets, stands, objection, Admissible}
 use Rattle.reader.specs.Rules.{Keeps}
 use Rattle.reader.specs.Said.{Said}
 use Rattle.records.specs.Shape.{between}
@@ -43,41 +45,40 @@ between_in low x high h k = and_from _ _ (le-leb low x h) (le-leb x high k)
 
 -- no effect of the list is of the same step on the same signal
 abbrev pub Fresh : List Effect → Effect → Type 0
-Fresh es e = (k : ℕ) → k < length es → SameTarget (get_or es k no_effect) e → ⊥
+Fresh es e = All (λ f. SameTarget f e → ⊥) es
 
 -- a step and a signal with no effect have none at any place
 fresh_from : (es : List Effect) (e : Effect) → sets es e.step e.signal ≡ false → Fresh es e
-fresh_from [] e none k h same = omega arith
-fresh_from (f ∷ es) e none zero h same =
-    both_ways _ (or_parts (eqb f.step e.step && eqb f.signal e.signal) _ none).0
-    (and_from _ _ (eq-eqb _ _ same.0) (eq-eqb _ _ same.1))
-fresh_from (f ∷ es) e none (suc k) h same =
-    fresh_from es e (or_parts (eqb f.step e.step && eqb f.signal e.signal) _ none).1 k (omega arith) same
+fresh_from [] e none = All-nil _
+fresh_from (f ∷ es) e none =
+    let r = or_parts (f.step == e.step && f.signal == e.signal) (sets es e.step e.signal) none in
+    All-cons (λ g. SameTarget g e → ⊥) f es (λ same. both_ways _ r.0 (and_from _ _ (eq-eqb _ _ same.0) (eq-eqb _ _ same.1))) (fresh_from es e r.1)
 
 -- a step and a signal with an effect at no place have none
 none_from : (es : List Effect) (e : Effect) → Fresh es e → sets es e.step e.signal ≡ false
 none_from [] e fresh = refl
-none_from (f ∷ es) e fresh = or_from _ _ first (none_from es e (λ k h same. fresh (suc k) (omega arith) same))
+none_from (f ∷ es) e fresh = or_from _ _ first (none_from es e (All-tail (λ g. SameTarget g e → ⊥) f es fresh))
   where
-    first : (eqb f.step e.step && eqb f.signal e.signal) ≡ false
+    first : (f.step == e.step && f.signal == e.signal) ≡ false
     first =
-        elim (cases_Bool (eqb f.step e.step && eqb f.signal e.signal)) [
+        elim (cases_Bool (f.step == e.step && f.signal == e.signal)) [
           | inl hit ↦
-              let r = and_parts (eqb f.step e.step) (eqb f.signal e.signal) hit in
-              absurd (fresh 0 (omega arith) (eqb-true _ _ r.0, eqb-true _ _ r.1))
+              let r = and_parts (f.step == e.step) (f.signal == e.signal) hit in
+              absurd (All-head (λ g. SameTarget g e → ⊥) f es fresh (eqb-true _ _ r.0, eqb-true _ _ r.1))
           | inr miss ↦ miss
         ]
 
--- numbers that pass the test are below n at every place
-each_below : (n : ℕ) (cs : List ℕ) → all_below n cs ≡ true → (k : ℕ) → k < length cs → get_or cs k 0 < n
-each_below n [] e k h = absurd (omega arith)
-each_below n (c ∷ cs) e zero h = ltb-true c n (and_parts (ltb c n) (all_below n cs) e).0
-each_below n (c ∷ cs) e (suc k) h = each_below n cs (and_parts (ltb c n) (all_below n cs) e).1 k (omega arith)
+-- numbers that pass the test are below n
+each_below : (n : ℕ) (cs : List ℕ) → list_all (λ k. nat_lt k n) cs ≡ true → All (λ k. k < n) cs
+each_below n [] e = All-nil _
+each_below n (c ∷ cs) e =
+    let r = and_parts (nat_lt c n) (list_all (λ k. nat_lt k n) cs) e in
+    All-cons (λ k. k < n) c cs (ltb-true c n r.0) (each_below n cs r.1)
 
--- numbers that are below n at every place pass the test
-below_each : (n : ℕ) (cs : List ℕ) → ((k : ℕ) → k < length cs → get_or cs k 0 < n) → all_below n cs ≡ true
-below_each n [] h = refl
-below_each n (c ∷ cs) h = and_from _ _ (lt-ltb c n (h 0 (omega arith))) (below_each n cs (λ k i. h (suc k) (omega arith)))
+-- numbers below n pass the test
+below_each : (n : ℕ) (cs : List ℕ) → All (λ k. k < n) cs → list_all (λ k. nat_lt k n) cs ≡ true
+below_each n [] all = refl
+below_each n (c ∷ cs) all = and_from _ _ (lt-ltb c n (All-head (λ k. k < n) c cs all)) (below_each n cs (All-tail (λ k. k < n) c cs all))
 
 -- a record that passes its tests keeps the rules
 tests_keep : (s : Said) (x : Item) → well_formed x ≡ true → objection s x ≡ None → Keeps s x
@@ -109,9 +110,9 @@ tests_keep s (pair e l) f o =
     let inside = both_below e s.steps l s.steps there.0 in
     (inside.0, inside.1, ltb-true _ _ few.0)
 tests_keep s (link n cs) f o =
-    let there = passes (ltb n (length s.needs) && all_below s.steps cs) _ _ o in
+    let there = passes (ltb n (length s.needs) && list_all (λ k. nat_lt k s.steps) cs) _ _ o in
     let fresh = passes (not (mem n s.linked)) _ _ there.1 in
-    let inside = and_parts (ltb n (length s.needs)) (all_below s.steps cs) there.0 in
+    let inside = and_parts (ltb n (length s.needs)) (list_all (λ k. nat_lt k s.steps) cs) there.0 in
     let long = in_between 1 (length cs) 64 f in
     (long.0, long.1, ltb-true _ _ inside.0, each_below s.steps cs inside.1, not-true _ fresh.0)
 tests_keep s (name w bs) f o =

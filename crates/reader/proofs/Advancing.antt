@@ -1,13 +1,13 @@
 -- One record more of a walk, and how far it leads.
-use Rattle.std.proofs.Common.{◌≡◌, ℕ, suc, ◌<◌, ◌≤◌, true, false, List, [], ◌∷◌, length, Ok, Option, refl, ap, subst, arith}
-use Rattle.reader.specs.declared.ledger.Ledger.{Ledger}
+use Rattle.std.proofs.Common.{◌≡◌, ℕ, suc, ◌<◌, ◌≤◌, true, false, List, [], ◌∷◌, length, Some, Ok, Option, refl, sym, ap, ◌∙◌, subst, arith}
 use Rattle.records.specs.declared.record.Record.{Record}
 use Rattle.records.specs.declared.record.Record.TheVariants.{Header, Start, Effect, Need, Pair, Link, Name, End}
-use Rattle.reader.specs.Advance.{Advanced}
 use Rattle.records.specs.Item.{Item, bytes, is_end}
 use Rattle.reader.specs.Reading.{next, Progress, walk, going, ended, whole_walk, sheet_after, reading, name_after, naming}
 use Rattle.reader.specs.Said.{said_by, sheet_of}
 use Rattle.records.specs.View.{item_of}
+use Rattle.reader.specs.declared.walk.Walk.{Walk}
+use Rattle.reader.specs.Walk.{After, Onward}
 use Rattle.reader.proofs.Room.{place_fits}
 use Rattle.sheet.specs.Limits.{Limits}
 use Rattle.reader.proofs.Limited.{limits_said}
@@ -78,7 +78,11 @@ limits_at_end file past e =
     let end : Ended file past = subst (Walked file (suc (length file))) e (walked file (suc (length file))) in
     limits_said past end.admitted end.ends.placed
 
--- the answer of one record more, at what it is
-pub answer_at : (file : List ℕ) (past : List Item) (n p : ℕ) (l : Ledger) (o : Option (Record × ℕ)) (was : Option (Record × ℕ))
-    → was ≡ o → Advanced file past n p l (Ok was) → Advanced file past n p l (Ok o)
-answer_at file past n p l o was e = subst (λ (y : Option (Record × ℕ)). Advanced file past n p l (Ok y)) e
+-- the answer of a step, at what it is
+pub onward_at : (w v : Walk) (past : List Item) (n : ℕ) (o was : Option Record) → was ≡ o → Onward w past n (Ok was) v → Onward w past n (Ok o) v
+onward_at w v past n o was e = subst (λ (y : Option Record). Onward w past n (Ok y) v) e
+
+-- a step leads further into the file
+pub nearer : (w v : Walk) (past : List Item) (n : ℕ) (r : Record) → After w past n → Onward w past n (Ok (Some r)) v → (w.at < v.at) × (v.at ≤ length w.file.now)
+nearer w v past n r here step =
+    further w.file.now n past w.at (item_of r) v.at here.reached (ap (λ (f : List ℕ). walk f (suc n)) (sym step.0) ∙ step.1.reached)

@@ -1,15 +1,17 @@
 -- What the records of a file keep together, one by one.
-use Rattle.std.proofs.Common.{◌≡◌, ℕ, ◌<◌, ◌≤◌, true, false, eqb, ltb, List, [], ◌∷◌, ◌++◌, length, get_or, filter, sym, refl, ap, ◌∙◌, subst, inl, inr, arith}
-use Rattle.std.specs.List.{range_with_len, AllByRecursion}
-use Rattle.std.proofs.ByRecursion.{All-push, All-set, All-get_or, All-from_get_or, kept_by_passes}
-use Rattle.std.proofs.lemmas.List.{length_push, length-set, get_or_push, get_or_append_left}
-use Rattle.std.proofs.lemmas.Bool.{cases_eq, eqb-true, ltb-true, lt-ltb, and_parts, or_cases, not-true, both_ways, false≢true}
+use Rattle.std.proofs.Common.{◌≡◌, ℕ, ◌<◌, ◌≤◌, true, false, ltb, List, [], ◌∷◌, ◌++◌, length, get_or, All, AllPairs, sym, refl, subst, arith}
+use Rattle.std.specs.List.{range_with_len}
+use Rattle.std.proofs.lemmas.List.Elements.{All-push, All-set, All-get_or, All-nil, All-weaker, filter_passes}
+use Rattle.std.proofs.lemmas.List.Quantifiers.{all_pairs_push}
+use Rattle.std.proofs.lemmas.List.{length_push, length-set}
+use Rattle.std.proofs.lemmas.Bool.{ltb-true, lt-ltb, and_parts, not-true, both_ways, false≢true}
 use Rattle.sheet.specs.declared.parts.Effect.{Effect}
 use Rattle.sheet.specs.declared.parts.Pair.{Pair}
-use Rattle.sheet.specs.Fit.{EffectFits, SameTarget, NeedFits, PairFits, no_effect}
+use Rattle.sheet.specs.Fit.{EffectFits, SameTarget, NeedFits, LinkFits, PairFits}
 use Rattle.sheet.specs.Limits.{no_need}
 use Rattle.sheet.specs.Model.{Need}
 use Rattle.sets.specs.Sets.{mem, rising}
+use Rattle.sets.proofs.Bits.{mem_passes}
 use Rattle.records.specs.declared.record.Mark.TheVariants as mark
 use Rattle.records.specs.Item.{Item, header, start, effect, need, pair, link, name, end}
 use Rattle.reader.specs.Lawful.{stands, Admissible}
@@ -28,17 +30,13 @@ apart_wider : (n m : ℕ) (l : List ℕ) → n ≤ m → Apart n l → Apart m l
 apart_wider n m [] h a = tt
 apart_wider n m (k ∷ l) h a = (omega (arith, a.0), a.1, apart_wider n m l h a.2)
 
--- each contributor of a link is a step that there is
-abbrev pub LinkFits : ℕ → List ℕ → Type 0
-LinkFits n l = (j : ℕ) → mem j l ≡ true → j < n
-
 -- what every need keeps
 abbrev pub NeedKept : ℕ → ℕ → Need → Type 0
 NeedKept n v x = NeedFits n v x.step x.signal × LinkFits n x.link
 
 -- no two effects of one step on one signal
 abbrev pub Single : List Effect → Type 0
-Single es = (j k : ℕ) → j < k → k < length es → SameTarget (get_or es j no_effect) (get_or es k no_effect) → ⊥
+Single es = AllPairs (λ e f. SameTarget e f → ⊥) es
 
 -- what is said keeps every limit, once the header is read
 pub record Kept (s : Said) : Type 0 where
@@ -46,43 +44,22 @@ pub record Kept (s : Said) : Type 0 where
   pub signal_count : (1 ≤ s.signals) × (s.signals ≤ 64)
   pub start_count : length s.starts ≤ s.signals
   pub part_counts : (length s.effects ≤ 256) × (length s.needs ≤ 256) × (length s.pairs ≤ 512)
-  pub effects_kept : AllByRecursion (EffectFits s.steps s.signals) s.effects
+  pub effects_kept : All (EffectFits s.steps s.signals) s.effects
   pub effects_single : Single s.effects
-  pub needs_kept : AllByRecursion (NeedKept s.steps s.signals) s.needs
-  pub pairs_kept : AllByRecursion (PairFits s.steps) s.pairs
+  pub needs_kept : All (NeedKept s.steps s.signals) s.needs
+  pub pairs_kept : All (PairFits s.steps) s.pairs
   pub linked_apart : Apart (length s.needs) s.linked
   pub named_apart : Apart s.steps s.named
 
--- effects equal to those of one target have one target
-same_moved : {e f g h : Effect} → e ≡ g → f ≡ h → SameTarget e f → SameTarget g h
-same_moved p q same = (
-  ap (λ (x : Effect). x.step) (sym p) ∙ same.0 ∙ ap (λ (x : Effect). x.step) q,
-  ap (λ (x : Effect). x.signal) (sym p) ∙ same.1 ∙ ap (λ (x : Effect). x.signal) q,
-)
-
 -- one effect more, of a step and a signal that had none
 single_push : (es : List Effect) (f : Effect) → Fresh es f → Single es → Single (es ++ f ∷ [])
-single_push es f fresh single j k below h same =
-    let long = length_push es f in
-    let front : get_or (es ++ f ∷ []) j no_effect ≡ get_or es j no_effect = get_or_append_left es (f ∷ []) no_effect j (omega arith) in
-    elim (cases_eq k (length es)) [
-      | inl last ↦ fresh j (omega arith) (same_moved front (get_or_push es f no_effect k (sym last)) same)
-      | inr other ↦
-          let inside : k < length es = omega arith in
-          single j k below inside (same_moved front (get_or_append_left es (f ∷ []) no_effect k inside) same)
-    ]
-
--- what every number of a list passes
-mem_all : (P : ℕ → Type 0) (l : List ℕ) (j : ℕ) → AllByRecursion P l → mem j l ≡ true → P j
-mem_all P [] j a m = absurd (false≢true m)
-mem_all P (k ∷ l) j a m =
-    elim (or_cases (eqb j k) (mem j l) m) [ inl same ↦ subst P (sym (eqb-true j k same)) a.0 | inr rest ↦ mem_all P l j a.1 rest ]
+single_push es f fresh single = all_pairs_push (λ e g. SameTarget e g → ⊥) es f single fresh
 
 -- a link of steps that there are
-rising_fits : (n : ℕ) (cs : List ℕ) → ((k : ℕ) → k < length cs → get_or cs k 0 < n) → LinkFits n (rising (λ k. mem k cs))
+rising_fits : (n : ℕ) (cs : List ℕ) → All (λ k. k < n) cs → LinkFits n (rising (λ k. mem k cs))
 unfolding rising
-rising_fits n cs below j m =
-    mem_all (λ k. k < n) cs j (All-from_get_or (λ k. k < n) cs 0 below) (mem_all (λ k. mem k cs ≡ true) (filter (λ k. mem k cs) (range_with_len 0 64)) j (kept_by_passes (λ k. mem k cs) (range_with_len 0 64)) m)
+rising_fits n cs below =
+    All-weaker (λ k. mem k cs ≡ true) (λ k. k < n) (λ k e. mem_passes (λ j. j < n) cs k below e) _ (filter_passes (λ k. mem k cs) (range_with_len 0 64))
 
 -- a header may stand only where none is read
 pub no_header : (s : Said) → 0 < s.steps → stands s mark.Header ≡ true → ⊥
@@ -140,7 +117,7 @@ module _ (s : Said) (k : Kept s) where
         effects_single = k.effects_single;
         needs_kept =
             All-push (NeedKept s.steps s.signals) s.needs (open_need w x l h) k.needs_kept
-            (r.0, λ j m. absurd (false≢true m));
+            (r.0, All-nil (λ k. k < s.steps));
         pairs_kept = k.pairs_kept;
         linked_apart = apart_wider (length s.needs) _ s.linked (omega arith) k.linked_apart;
         named_apart = k.named_apart;
@@ -232,10 +209,10 @@ kept_header n v r =
       signal_count = (r.2, r.3);
       start_count = omega arith;
       part_counts = (omega arith, omega arith, omega arith);
-      effects_kept = tt;
-      effects_single = λ j k b h same. omega arith;
-      needs_kept = tt;
-      pairs_kept = tt;
+      effects_kept = All-nil _;
+      effects_single = λ j k d b h same. omega arith;
+      needs_kept = All-nil _;
+      pairs_kept = All-nil _;
       linked_apart = tt;
       named_apart = tt;
     }

@@ -3,11 +3,10 @@ pub mod Admitting
 pub mod Advancing
 pub mod Kept
 pub mod Laws
-pub mod Ledgers
 pub mod Limited
+pub mod Linking
 pub mod Named
 pub mod Nexts
-pub mod Ors
 pub mod Room
-pub mod Walking
 pub mod Spelling
+pub mod Walking

@@ -1,8 +1,7 @@
 -- The name of a step, by the walk and by the records, and the steps that the records say.
-use Rattle.std.proofs.Common.{◌≡◌, ℕ, ◌+◌, Bool, true, false, cond, eqb, List, [], ◌∷◌, ◌++◌, map, length, Some, None, Option, sym, refl, ap, ◌∙◌, subst}
+use Rattle.std.proofs.Common.{◌≡◌, ℕ, ◌+◌, Bool, true, false, cond, eqb, List, [], ◌∷◌, ◌++◌, map, length, Some, None, Option, All, sym, refl, ap, ◌∙◌, subst}
 use mathlib.Core.List.{reverse_aux}
-use Rattle.std.specs.List.{AllByRecursion}
-use Rattle.std.proofs.ByRecursion.{All-append, All-from_get_or, All-map, All-push, All-weaker}
+use Rattle.std.proofs.lemmas.List.Elements.{All-append, All-from_get_or, All-head, All-map, All-push, All-tail, All-weaker}
 use Rattle.std.proofs.lemmas.Bool.{eqb-true, eqb-false, ne_eqb, or_parts, cond-false}
 use Rattle.sets.specs.Sets.{mem}
 use Rattle.records.specs.Item.{Item, header, start, effect, need, pair, link, name, end, bytes, size}
@@ -63,9 +62,9 @@ abbrev Leaves : Item → Type 0
 Leaves x = (s : Said) → (said s x).steps ≡ s.steps
 
 -- they leave it together
-steps_left : (s : Said) (xs : List Item) → AllByRecursion Leaves xs → (said_in s xs).steps ≡ s.steps
+steps_left : (s : Said) (xs : List Item) → All Leaves xs → (said_in s xs).steps ≡ s.steps
 steps_left s [] all = refl
-steps_left s (x ∷ xs) all = steps_left (said s x) xs all.1 ∙ all.0 s
+steps_left s (x ∷ xs) all = steps_left (said s x) xs (All-tail Leaves x xs all) ∙ All-head Leaves x xs all s
 
 -- parts do
 part_leaves : (x : Item) → IsPart x → Leaves x

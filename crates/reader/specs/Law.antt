@@ -8,7 +8,7 @@
 --   FaultsFirst     who asks for a step's name gets the file's fault, if it has one, else the fault of a step that is not there,
 --                   else an answer
 --   NamesExactly    the name of a step is the one that the records of the file say, at its place
-use Rattle.std.specs.Prelude.{◌≡◌, ℕ, ◌+◌, ◌^◌, ◌<◌, ◌≤◌, cond, List, [], ◌∷◌, length, Some, None, Ok, Err, Option, ◌==◌}
+use Rattle.std.specs.Prelude.{◌≡◌, ℕ, ◌+◌, ◌^◌, ◌<◌, ◌≤◌, if◌then◌else◌, List, [], ◌∷◌, length, Some, None, Ok, Err, Option, ◌==◌}
 use Rattle.std.specs.List.{flat_map}
 use Rattle.faults.specs.declared.fault.Fault.TheVariants.{Reader, Run}
 use Rattle.faults.specs.declared.fault.ReaderFault.{ReaderFault}
@@ -33,7 +33,7 @@ name_of p (effect e ∷ xs) w = name_of (p + length (bytes (effect e))) xs w
 name_of p (need s x a b ∷ xs) w = name_of (p + length (bytes (need s x a b))) xs w
 name_of p (pair e l ∷ xs) w = name_of (p + length (bytes (pair e l))) xs w
 name_of p (link n cs ∷ xs) w = name_of (p + length (bytes (link n cs))) xs w
-name_of p (name s bs ∷ xs) w = cond (s == w) (Some (p + 4, bs)) (name_of (p + length (bytes (name s bs))) xs w)
+name_of p (name s bs ∷ xs) w = if s == w then Some (p + 4, bs) else name_of (p + length (bytes (name s bs))) xs w
 name_of p (end ∷ xs) w = name_of (p + length (bytes end)) xs w
 
 -- these records are lawful, are the whole file, and say the sheet s

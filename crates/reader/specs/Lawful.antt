@@ -3,10 +3,10 @@
 --   stands_after n v k m  the same, by the number n of steps and v of signals announced and the number k of start words read
 --   unless ok c rest      the rule c is broken unless ok; the later rules are rest
 --   sets es w x           one of the effects is of the step w on the signal x
---   all_below n ks        every number is below n
 --   objection s x         the first rule that the record x breaks after what is said so far, if any
 --   Admissible s x        the record x may come after what is said so far
-use Rattle.std.specs.Prelude.{◌≡◌, ℕ, suc, Bool, true, false, cond, not, ◌&&◌, ◌||◌, List, [], ◌∷◌, length, Some, None, Option, ◌==◌, nat_lt}
+use Rattle.std.specs.Prelude.{◌≡◌, ℕ, suc, Bool, true, if◌then◌else◌, not, ◌&&◌, List, length, Some, None, Option, ◌==◌, nat_lt}
+use Rattle.std.specs.List.{list_all, list_any}
 use Rattle.faults.specs.declared.fault.Cause.{Cause}
 use Rattle.faults.specs.declared.fault.Cause.TheVariants as cause
 use Rattle.sheet.specs.declared.parts.Effect.{Effect}
@@ -32,16 +32,10 @@ abbrev pub stands : Said → Mark → Bool
 stands s m = stands_after s.steps s.signals (length s.starts) m
 
 abbrev pub unless : Bool → Cause → Option Cause → Option Cause
-unless ok c rest = cond ok rest (Some c)
+unless ok c rest = if ok then rest else Some c
 
--- a step and a signal have an effect
 abbrev pub sets : List Effect → ℕ → ℕ → Bool
-sets [] w x = false
-sets (e ∷ es) w x = (e.step == w && e.signal == x) || sets es w x
-
-abbrev pub all_below : ℕ → List ℕ → Bool
-all_below n [] = true
-all_below n (k ∷ ks) = nat_lt k n && all_below n ks
+sets es w x = list_any (λ (e : Effect). e.step == w && e.signal == x) es
 
 abbrev pub objection : Said → Item → Option Cause
 objection s (header n v) = None
@@ -59,7 +53,7 @@ objection s (pair e l) =
     unless (nat_lt e s.steps && nat_lt l s.steps) cause.NoSuch
     (unless (nat_lt (length s.pairs) 512) cause.TooMany None)
 objection s (link n cs) =
-    unless (nat_lt n (length s.needs) && all_below s.steps cs) cause.NoSuch
+    unless (nat_lt n (length s.needs) && list_all (λ k. nat_lt k s.steps) cs) cause.NoSuch
     (unless (not (mem n s.linked)) cause.LinkedTwice None)
 objection s (name w bs) =
     unless (nat_lt w s.steps) cause.NoSuch

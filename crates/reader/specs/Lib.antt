@@ -1,4 +1,3 @@
-pub mod Advance
 pub mod Draft
 pub mod Law
 pub mod Lawful
@@ -7,3 +6,4 @@ pub mod Results
 pub mod Rules
 pub mod Said
 pub mod Shows
+pub mod Walk

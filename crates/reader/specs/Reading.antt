@@ -11,7 +11,7 @@
 --   name_in past w   the name of the step w and its place
 --   name_after g w   the name that is said then, or the fault
 --   naming f w       the name of a step, as a place and bytes, or nothing, or the fault
-use Rattle.std.specs.Prelude.{ℕ, zero, suc, ◌+◌, cond, List, [], ◌∷◌, length, Some, None, Ok, Err, Option, Result, ◌==◌, nat_lt}
+use Rattle.std.specs.Prelude.{ℕ, zero, suc, ◌+◌, if◌then◌else◌, List, [], ◌∷◌, length, Some, None, Ok, Err, Option, Result, ◌==◌, nat_lt}
 use Rattle.faults.specs.declared.fault.Cause.{Cause}
 use Rattle.faults.specs.declared.fault.Cause.TheVariants as cause
 use Rattle.faults.specs.declared.fault.ReaderFault.{ReaderFault}
@@ -33,7 +33,7 @@ abbrev pub admitted : Said → ℕ → Result (Item × ℕ) ReaderFault → Resu
 admitted s p r = on_ok r (λ x. refused_by p x (objection s x.0))
 
 abbrev pub placed : List ℕ → Said → ℕ → Mark → Result (Item × ℕ) ReaderFault
-placed file s p m = cond (stands s m) (admitted s p (body_at file p m)) (Err (fault cause.Mark p))
+placed file s p m = if stands s m then admitted s p (body_at file p m) else Err (fault cause.Mark p)
 
 unfoldable pub next : List ℕ → Said → ℕ → Result (Item × ℕ) ReaderFault
 next file s p = on_ok (mark_at file p) (placed file s p)
@@ -47,9 +47,9 @@ pub data Progress : Type 0 where
 abbrev pub onward : List ℕ → List Item → Result (Item × ℕ) ReaderFault → Progress
 onward file past (Err f) = faulty f
 onward file past (Ok x) =
-    cond (is_end x.0)
-    (cond (x.1 == length file) (ended past) (faulty (fault cause.AfterEnd x.1)))
-    (going (x.0 ∷ past) x.1)
+    if is_end x.0
+    then (if x.1 == length file then ended past else faulty (fault cause.AfterEnd x.1))
+    else going (x.0 ∷ past) x.1
 
 abbrev pub advance : List ℕ → Progress → Progress
 advance file (going past p) = onward file past (next file (said_by past) p)
@@ -80,12 +80,12 @@ name_in (effect e ∷ past) w = name_in past w
 name_in (need s x a b ∷ past) w = name_in past w
 name_in (pair e l ∷ past) w = name_in past w
 name_in (link n cs ∷ past) w = name_in past w
-name_in (name s bs ∷ past) w = cond (s == w) (Some (size past + 4, bs)) (name_in past w)
+name_in (name s bs ∷ past) w = if s == w then Some (size past + 4, bs) else name_in past w
 name_in (end ∷ past) w = name_in past w
 
 abbrev pub name_after : Progress → ℕ → Result (Option (ℕ × List ℕ)) Fault
 name_after (going past p) w = Err (Reader (fault cause.CutShort p))
-name_after (ended past) w = cond (nat_lt w (said_by past).steps) (Ok (name_in past w)) (Err (Run (NoSuchStep w)))
+name_after (ended past) w = if nat_lt w (said_by past).steps then Ok (name_in past w) else Err (Run (NoSuchStep w))
 name_after (faulty f) w = Err (Reader f)
 
 unfoldable pub naming : List ℕ → ℕ → Result (Option (ℕ × List ℕ)) Fault

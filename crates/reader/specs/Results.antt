@@ -6,7 +6,6 @@
 use Rattle.std.specs.Prelude.{◌≡◌, ℕ, true, List, ◌∷◌, Some, None, Ok, Err, Option, Result}
 use Rattle.faults.specs.declared.fault.Fault.{Fault}
 use Rattle.sheet.specs.declared.sheet.Sheet.{Sheet}
-use Rattle.sheet.specs.View.{model}
 use Rattle.reader.specs.declared.reading.ReadError.{ReadError}
 use Rattle.reader.specs.declared.reading.ReadError.TheVariants as error
 use Rattle.records.specs.declared.record.Part.{Part}
@@ -23,7 +22,7 @@ pub record Starved (file : List ℕ) : Type 0 where
   pub adds : takes_memory newest ≡ true
 
 abbrev pub ReadAs : List ℕ → Result Sheet ReadError → Type 0
-ReadAs file (Ok s) = reading file ≡ Ok (model s)
+ReadAs file (Ok s) = reading file ≡ Ok s
 ReadAs file (Err (error.Fault f)) = reading file ≡ Err f
 ReadAs file (Err error.Memory) = Starved file
 

@@ -3,9 +3,8 @@
 --   Keeps s x    the rules that the record x keeps after what is said so far
 --   Follow s xs  each of these records keeps the rules after what is said so far and those before it
 --   Lawful xs    these records make a whole file: one header, a start word for each signal, parts in any order, the end record
-use Rattle.std.specs.Prelude.{◌≡◌, ℕ, ◌<◌, ◌≤◌, false, List, [], ◌∷◌, ◌++◌, map, length, slice_index, slice_index_or}
-use Rattle.std.specs.List.{AllByRecursion}
-use Rattle.sheet.specs.Fit.{EffectFits, SameTarget, NeedFits, no_effect}
+use Rattle.std.specs.Prelude.{◌≡◌, ℕ, ◌<◌, ◌≤◌, false, List, [], ◌∷◌, ◌++◌, map, length, All}
+use Rattle.sheet.specs.Fit.{EffectFits, SameTarget, NeedFits}
 use Rattle.sets.specs.Sets.{mem}
 use Rattle.records.specs.Item.{Item, header, start, effect, need, pair, link, name, end}
 use Rattle.reader.specs.Said.{Said, said, nothing}
@@ -27,7 +26,7 @@ Keeps s (start w) = Unit {0}
 -- of a step between start and finish, the first of that step on that signal, and at most 256
 Keeps s (effect e) =
     EffectFits s.steps s.signals e
-    × ((k : ℕ) → k < length s.effects → SameTarget (slice_index_or s.effects k no_effect) e → ⊥)
+    × All (λ f. SameTarget f e → ⊥) s.effects
     × (length s.effects < 256)
 -- of any step but the start, and at most 256
 Keeps s (need w x a b) = NeedFits s.steps s.signals w x × (length s.needs < 256)
@@ -36,7 +35,7 @@ Keeps s (pair e l) = (e < s.steps) × (l < s.steps) × (length s.pairs < 512)
 -- 1 to 64 contributors that there are, the first link of a need that there is
 Keeps s (link n cs) =
     (1 ≤ length cs) × (length cs ≤ 64) × (n < length s.needs)
-    × ((k : ℕ) → k < length cs → slice_index cs k < s.steps)
+    × All (λ k. k < s.steps) cs
     × (mem n s.linked ≡ false)
 -- 1 to 24 letters, the first name of a step that there is
 Keeps s (name w bs) = (1 ≤ length bs) × (length bs ≤ 24) × (w < s.steps) × (mem w s.named ≡ false)
@@ -53,5 +52,5 @@ pub record Lawful (records : List Item) : Type 0 where
   pub parts : List Item
   pub whole : records ≡ header steps signals ∷ (map start words ++ (parts ++ end ∷ []))
   pub started : length words ≡ signals
-  pub of_parts : AllByRecursion IsPart parts
+  pub of_parts : All IsPart parts
   pub kept : Follow nothing records

@@ -1,12 +1,12 @@
 // What the records of a file have said so far, as much as the next record is tested against.
-ghost use Rattle.std.specs.Prelude.{◌≡◌, ◌≤◌, length};
+ghost use Rattle.std.specs.Prelude.{◌≡◌, ◌≤◌};
 
 use sets::index_set::IndexSet;
 
 mod admission;
-mod advance;
 
-// Sets and counts, and no list: the name of a step is found with this alone.
+// Sets and counts, and no list, so that the name of a step is found with no heap. The numbers of the header are 0 until it is
+// read: no step and no signal is below them then, so these are counts and no sign of their own.
 #[derive(Clone, Copy)]
 pub(crate) struct Ledger {
     steps: u8,
@@ -21,8 +21,6 @@ pub(crate) struct Ledger {
     linked: [bool; 256],
     // the steps that have a name
     named: IndexSet,
-    ghost rows: { length set_by ≡ 64 },
-    ghost flags: { length linked ≡ 256 },
     ghost few_steps: { steps ≤ 64 },
     ghost few_signals: { signals ≤ 64 },
     ghost few_needs: { needs ≤ 256 },

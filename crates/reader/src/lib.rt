@@ -5,6 +5,7 @@ mod draft;
 mod ledger;
 mod naming;
 mod reading;
+mod walk;
 
 pub use naming::name;
 pub use reading::{ReadError, read};

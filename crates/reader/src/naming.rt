@@ -1,12 +1,12 @@
 // The name of a step, as a part of the file.
 ghost use Rattle.std.specs.Prelude.{◌≡◌, List, ◌∷◌};
 ghost use Rattle.records.specs.Item.{Item, size};
+ghost use Rattle.records.specs.View.{item_of, PlacedAt};
 ghost use Rattle.reader.specs.Law.{FaultsFirst, NamesExactly};
 ghost use Rattle.reader.specs.Reading.{naming, name_in};
 ghost use Rattle.reader.specs.Results.{named, part_of};
-ghost use Rattle.records.specs.View.{item_of, PlacedAt};
 
-use crate::ledger::Ledger;
+use crate::walk::Walk;
 use faults::fault::{Fault, RunFault};
 use records::record::{Part, Record};
 
@@ -16,13 +16,7 @@ fn or_newer<'a>(found: Option<Part<'a>>, candidate: Record<'a>, step: u16) -> Op
         → part_of result ≡ name_in (item_of candidate.entry ∷ past) step }
 {
     match candidate {
-        Record::Name { step: owner, name } => {
-            if u16::from(owner) == step {
-                Some(name)
-            } else {
-                found
-            }
-        }
+        Record::Name { step: owner, name } if u16::from(owner) == step => Some(name),
         _ => found,
     }
 }
@@ -33,14 +27,12 @@ pub fn name<'a>(file: &'a [u8], step: u16) -> Result<Option<Part<'a>>, Fault>
     ensures first { FaultsFirst }
     ensures exact { NamesExactly }
 {
-    let mut ledger = Ledger::new();
+    let mut walk = Walk::new(file);
     let mut found = None;
-    let mut at = 0u16;
-    'records: while let Some((record, next)) = ledger.advance(file, at)? {
+    while let Some(record) = walk.next()? {
         found = or_newer(found, record, step);
-        at = next;
     }
-    if step < u16::from(ledger.steps()) {
+    if step < u16::from(walk.steps()) {
         Ok(found)
     } else {
         Err(Fault::Run(RunFault::NoSuchStep { step }))

@@ -4,8 +4,8 @@ ghost use Rattle.reader.specs.declared.reading.ReadError.TheVariants.{Fault, Mem
 ghost use Rattle.reader.specs.Law.{ReadsExactly, PlacesFit};
 ghost use Rattle.reader.specs.Results.{ReadAs};
 
-use crate::draft::Draft;
-use crate::ledger::Ledger;
+use crate::draft::{add, no_parts};
+use crate::walk::Walk;
 use faults::fault::ReaderFault;
 use sheet::sheet::Sheet;
 use std::alloc::{AllocError, Global};
@@ -17,6 +17,7 @@ pub enum ReadError {
     Memory,
 }
 
+// By hand, since the contract of `read` names the error that a `?` makes, and a derived conversion says nothing of it.
 impl From<ReaderFault> for ReadError {
     ghost from_gives = { λ e r. r ≡ Fault e };
 
@@ -40,16 +41,11 @@ pub fn read(heap: Global, file: &[u8]) -> Result<Sheet, ReadError>
     ensures exact { ReadsExactly }
     ensures places { PlacesFit }
 {
-    let mut ledger = Ledger::new();
-    let mut draft = Draft::new(heap);
-    let mut at = 0u16;
-    'records: while let Some((record, next)) = ledger.advance(file, at)? {
-        draft.add(record)?;
-        at = next;
+    let mut walk = Walk::new(file);
+    let mut parts = no_parts(heap);
+    while let Some(record) = walk.next()? {
+        add(&mut parts, record)?;
     }
-    match draft.finish() {
-        Some(sheet) => Ok(sheet),
-        // what the ledger has let through keeps every limit of a sheet
-        None => unreachable(),
-    }
+    // what the walk has let through keeps every limit of a sheet
+    Ok(Sheet::new(parts).unwrap())
 }

@@ -8,12 +8,13 @@
 --   word_at f p       the word at a place, high byte first
 --   part f p k        the k bytes from a place on
 --   mark_of a b       the mark with these two letters
---   known p o         the mark, or the fault of an unknown one
+--   marked o          the mark, or that it is unknown
+--   known p o         the same with the place
 --   mark_at f p       the mark at a place
 --   part_at f p most  the place and the bytes of the part whose length stands three bytes on from the mark at p
 --   body_at f p m     the record at a place that begins with the mark m, and the place after it
 --   record_at f p     the record at a place, and the place after it
-use Rattle.std.specs.Prelude.{ℕ, ◌+◌, ◌*◌, Bool, cond, ◌&&◌, List, length, take, drop, Some, None, Ok, Err, Option, Result, ◌==◌, nat_le, slice_index}
+use Rattle.std.specs.Prelude.{ℕ, ◌+◌, ◌*◌, Bool, if◌then◌else◌, ◌&&◌, List, length, take, drop, Some, None, Ok, Err, Option, Result, ◌==◌, nat_le, slice_index}
 use Rattle.faults.specs.declared.fault.Cause.{Cause}
 use Rattle.faults.specs.declared.fault.Cause.TheVariants as cause
 use Rattle.faults.specs.declared.fault.ReaderFault.{ReaderFault}
@@ -29,10 +30,10 @@ on_ok (Ok x) f = f x
 on_ok (Err e) f = Err e
 
 abbrev pub whole : {A : Type 0} → List ℕ → ℕ → ℕ → Result A ReaderFault → Result A ReaderFault
-whole file p q r = cond (nat_le q (length file)) r (Err (fault cause.CutShort p))
+whole file p q r = if nat_le q (length file) then r else Err (fault cause.CutShort p)
 
 abbrev pub within : {A : Type 0} → Bool → ℕ → Result A ReaderFault → Result A ReaderFault
-within ok p r = cond ok r (Err (fault cause.OffLimits p))
+within ok p r = if ok then r else Err (fault cause.OffLimits p)
 
 abbrev pub between : ℕ → ℕ → ℕ → Bool
 between low x high = nat_le low x && nat_le x high
@@ -48,14 +49,19 @@ part file p k = take k (drop p file)
 
 abbrev pub mark_of : ℕ → ℕ → Option Mark
 mark_of a b =
-    cond (a == 83 && b == 72) (Some mark.Header)
-    (cond (a == 83 && b == 71) (Some mark.Start)
-    (cond (a == 69 && b == 70) (Some mark.Effect)
-    (cond (a == 78 && b == 68) (Some mark.Need)
-    (cond (a == 80 && b == 82) (Some mark.Pair)
-    (cond (a == 76 && b == 75) (Some mark.Link)
-    (cond (a == 78 && b == 77) (Some mark.Name)
-    (cond (a == 69 && b == 78) (Some mark.End) None)))))))
+    if a == 83 && b == 72 then Some mark.Header
+    else if a == 83 && b == 71 then Some mark.Start
+    else if a == 69 && b == 70 then Some mark.Effect
+    else if a == 78 && b == 68 then Some mark.Need
+    else if a == 80 && b == 82 then Some mark.Pair
+    else if a == 76 && b == 75 then Some mark.Link
+    else if a == 78 && b == 77 then Some mark.Name
+    else if a == 69 && b == 78 then Some mark.End
+    else None
+
+abbrev pub marked : Option Mark → Result Mark Cause
+marked (Some m) = Ok m
+marked None = Err cause.Mark
 
 abbrev pub known : ℕ → Option Mark → Result Mark ReaderFault
 known p (Some m) = Ok m

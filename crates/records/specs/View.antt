@@ -2,6 +2,7 @@
 --   item_of r     the record as a value
 --   shown r       the same of what the record reader answers, with the place after the record
 --   part_shown r  the place and the bytes of a part
+--   owned_shown r the same, behind the number of the step or the need whose it is
 --   PlacedAt p r  the parts of the record r at the place p begin four bytes on from its mark
 --   Placed p r    the same of what the record reader answers
 use Rattle.std.specs.Prelude.{◌≡◌, ℕ, ◌+◌, List, Ok, Err, Result}
@@ -28,6 +29,10 @@ shown (Err f) = Err f
 abbrev pub part_shown : Result Part ReaderFault → Result (ℕ × List ℕ) ReaderFault
 part_shown (Ok x) = Ok (x.place, x.bytes.now)
 part_shown (Err f) = Err f
+
+abbrev pub owned_shown : Result (ℕ × Part) ReaderFault → Result (ℕ × (ℕ × List ℕ)) ReaderFault
+owned_shown (Ok x) = Ok (x.0, (x.1.place, x.1.bytes.now))
+owned_shown (Err f) = Err f
 
 abbrev pub PlacedAt : ℕ → Record → Type 0
 PlacedAt p (Header steps signals) = Unit {0}

@@ -1,189 +1,165 @@
 // The record at a place of a file: its mark, its fields, their limits, the rest of its bytes.
-ghost use Rattle.std.specs.Prelude.{◌≡◌, ◌+◌, ◌<◌, length, Ok};
+ghost use Rattle.std.specs.Prelude.{◌≡◌, ◌+◌, ◌<◌, length, Ok, slice_index};
 ghost use Rattle.records.specs.declared.record.Mark.TheVariants as mark;
 ghost use Rattle.records.specs.Standing.{RecordsExactly};
-ghost use Rattle.records.specs.Shape.{whole, mark_of, mark_at, part_at, body_at, record_at, word_at};
-ghost use Rattle.records.specs.View.{shown, part_shown, Placed};
+ghost use Rattle.records.specs.Shape.{fault, on_ok, marked, mark_of, mark_at, byte_at, part, part_at, whole, body_at, record_at};
+ghost use Rattle.records.specs.View.{shown, part_shown, owned_shown, Placed};
 
 use crate::record::{Mark, Part, Record};
 use faults::fault::{Cause, ReaderFault};
 use sheet::parts::Effect;
 
-// The mark with these two letters.
-fn mark_of(first: u8, second: u8) -> Option<Mark>
-    ensures { result ≡ mark_of first second }
-{
-    match (first, second) {
-        (b'S', b'H') => Some(Mark::Header),
-        (b'S', b'G') => Some(Mark::Start),
-        (b'E', b'F') => Some(Mark::Effect),
-        (b'N', b'D') => Some(Mark::Need),
-        (b'P', b'R') => Some(Mark::Pair),
-        (b'L', b'K') => Some(Mark::Link),
-        (b'N', b'M') => Some(Mark::Name),
-        (b'E', b'N') => Some(Mark::End),
-        _ => None,
+impl TryFrom<[u8; 2]> for Mark {
+    type Error = Cause;
+
+    ghost try_from_gives = { λ letters r. r ≡ marked (mark_of (slice_index letters 0) (slice_index letters 1)) };
+
+    fn try_from(letters: [u8; 2]) -> Result<Mark, Cause> {
+        match &letters {
+            b"SH" => Ok(Mark::Header),
+            b"SG" => Ok(Mark::Start),
+            b"EF" => Ok(Mark::Effect),
+            b"ND" => Ok(Mark::Need),
+            b"PR" => Ok(Mark::Pair),
+            b"LK" => Ok(Mark::Link),
+            b"NM" => Ok(Mark::Name),
+            b"EN" => Ok(Mark::End),
+            _ => Err(Cause::Mark),
+        }
     }
 }
 
-// Nothing where the file goes on up to `end`; else the record at `at` is cut short.
-fn reaches(file: &[u8], at: u16, end: usize) -> Result<(), ReaderFault>
-    ensures { result ≡ whole file.now at end (Ok tt) }
+fn fault(cause: Cause, at: u16) -> ReaderFault
+    ensures { result ≡ fault cause at }
 {
-    if end <= file.len() {
-        Ok(())
-    } else {
-        Err(ReaderFault {
-            cause: Cause::CutShort,
-            place: at,
-        })
-    }
+    ReaderFault { cause, place: at }
 }
 
 pub fn mark_at(file: &[u8], at: u16) -> Result<Mark, ReaderFault>
     ensures { result ≡ mark_at file.now at }
 {
-    let place = usize::from(at);
-    reaches(file, at, place + 2)?;
-    match mark_of(file[place], file[place + 1]) {
-        Some(mark) => Ok(mark),
-        None => Err(ReaderFault {
-            cause: Cause::Mark,
-            place: at,
-        }),
+    let Some([first, second, ..]) = file.get(usize::from(at)..) else {
+        return Err(fault(Cause::CutShort, at));
+    };
+    match Mark::try_from([*first, *second]) {
+        Ok(mark) => Ok(mark),
+        Err(cause) => Err(fault(cause, at)),
     }
-}
-
-fn word(file: &[u8], at: usize) -> u16
-    requires { at + 1 < length file.now }
-    ensures { result ≡ word_at file.now at }
-{
-    u16::from(file[at]) * 256 + u16::from(file[at + 1])
 }
 
 fn header_at<'a>(file: &'a [u8], at: u16) -> Result<(Record<'a>, usize), ReaderFault>
     ensures { shown result ≡ body_at file.now at mark.Header }
 {
-    let place = usize::from(at);
-    reaches(file, at, place + 4)?;
-    let steps = file[place + 2];
-    let signals = file[place + 3];
-    if steps < 2 || steps > 64 || signals < 1 || signals > 64 {
-        return Err(ReaderFault {
-            cause: Cause::OffLimits,
-            place: at,
-        });
+    let Some([_, _, steps, signals, ..]) = file.get(usize::from(at)..) else {
+        return Err(fault(Cause::CutShort, at));
+    };
+    if !(2..=64).contains(steps) || !(1..=64).contains(signals) {
+        return Err(fault(Cause::OffLimits, at));
     }
-    Ok((Record::Header { steps, signals }, place + 4))
+    let record = Record::Header {
+        steps: *steps,
+        signals: *signals,
+    };
+    Ok((record, usize::from(at) + 4))
 }
 
 fn start_at<'a>(file: &'a [u8], at: u16) -> Result<(Record<'a>, usize), ReaderFault>
     ensures { shown result ≡ body_at file.now at mark.Start }
 {
-    let place = usize::from(at);
-    reaches(file, at, place + 4)?;
-    Ok((
-        Record::Start {
-            word: word(file, place + 2),
-        },
-        place + 4,
-    ))
+    let Some([_, _, high, low, ..]) = file.get(usize::from(at)..) else {
+        return Err(fault(Cause::CutShort, at));
+    };
+    let record = Record::Start {
+        word: u16::from_be_bytes([*high, *low]),
+    };
+    Ok((record, usize::from(at) + 4))
 }
 
 fn effect_at<'a>(file: &'a [u8], at: u16) -> Result<(Record<'a>, usize), ReaderFault>
     ensures { shown result ≡ body_at file.now at mark.Effect }
 {
-    let place = usize::from(at);
-    reaches(file, at, place + 6)?;
-    let effect = Effect {
-        step: file[place + 2],
-        signal: file[place + 3],
-        word: word(file, place + 4),
+    let Some([_, _, step, signal, high, low, ..]) = file.get(usize::from(at)..) else {
+        return Err(fault(Cause::CutShort, at));
     };
-    Ok((Record::Effect { effect }, place + 6))
+    let effect = Effect {
+        step: *step,
+        signal: *signal,
+        word: u16::from_be_bytes([*high, *low]),
+    };
+    Ok((Record::Effect { effect }, usize::from(at) + 6))
 }
 
 fn need_at<'a>(file: &'a [u8], at: u16) -> Result<(Record<'a>, usize), ReaderFault>
     ensures { shown result ≡ body_at file.now at mark.Need }
 {
-    let place = usize::from(at);
-    reaches(file, at, place + 8)?;
-    let a = word(file, place + 4);
-    let b = word(file, place + 6);
-    Ok((
-        Record::Need {
-            step: file[place + 2],
-            signal: file[place + 3],
-            a,
-            b,
-        },
-        place + 8,
-    ))
+    let Some([_, _, step, signal, a_high, a_low, b_high, b_low, ..]) = file.get(usize::from(at)..)
+    else {
+        return Err(fault(Cause::CutShort, at));
+    };
+    let record = Record::Need {
+        step: *step,
+        signal: *signal,
+        a: u16::from_be_bytes([*a_high, *a_low]),
+        b: u16::from_be_bytes([*b_high, *b_low]),
+    };
+    Ok((record, usize::from(at) + 8))
 }
 
 fn pair_at<'a>(file: &'a [u8], at: u16) -> Result<(Record<'a>, usize), ReaderFault>
     ensures { shown result ≡ body_at file.now at mark.Pair }
 {
-    let place = usize::from(at);
-    reaches(file, at, place + 4)?;
-    Ok((
-        Record::Pair {
-            earlier: file[place + 2],
-            later: file[place + 3],
-        },
-        place + 4,
-    ))
+    let Some([_, _, earlier, later, ..]) = file.get(usize::from(at)..) else {
+        return Err(fault(Cause::CutShort, at));
+    };
+    let record = Record::Pair {
+        earlier: *earlier,
+        later: *later,
+    };
+    Ok((record, usize::from(at) + 4))
 }
 
-// The part whose length stands three bytes on from the mark, 1 to `most`, with its bytes behind that.
-fn part_at<'a>(file: &'a [u8], at: u16, most: u8) -> Result<Part<'a>, ReaderFault>
-    ensures { part_shown result ≡ part_at file.now at most }
+// The part of so many bytes, which begins four bytes on from the mark.
+fn part_of<'a>(file: &'a [u8], at: u16, length: u8) -> Result<Part<'a>, ReaderFault>
+    ensures { part_shown result ≡ whole file.now at (at + 4 + length) (Ok (at + 4, part file.now (at + 4) length)) }
 {
-    let place = usize::from(at);
-    reaches(file, at, place + 4)?;
-    let length = file[place + 3];
-    if length < 1 || length > most {
-        return Err(ReaderFault {
-            cause: Cause::OffLimits,
-            place: at,
-        });
+    let place = usize::from(at) + 4;
+    match file.get(place..place + usize::from(length)) {
+        Some(bytes) => Ok(Part { place, bytes }),
+        None => Err(fault(Cause::CutShort, at)),
     }
-    let end = place + 4 + usize::from(length);
-    reaches(file, at, end)?;
-    Ok(Part {
-        place: place + 4,
-        bytes: &file[place + 4..end],
-    })
+}
+
+// A part of 1 to `most` bytes, with the number of the step or the need whose it is. Behind the mark stand that number and
+// the length.
+fn owned_part<'a>(file: &'a [u8], at: u16, most: u8) -> Result<(u8, Part<'a>), ReaderFault>
+    ensures { owned_shown result ≡ on_ok (part_at file.now at most) (λ x. Ok (byte_at file.now (at + 2), x)) }
+{
+    let Some([_, _, owner, length, ..]) = file.get(usize::from(at)..) else {
+        return Err(fault(Cause::CutShort, at));
+    };
+    if !(1..=most).contains(length) {
+        return Err(fault(Cause::OffLimits, at));
+    }
+    let part = part_of(file, at, *length)?;
+    Ok((*owner, part))
 }
 
 fn link_at<'a>(file: &'a [u8], at: u16) -> Result<(Record<'a>, usize), ReaderFault>
     ensures value { shown result ≡ body_at file.now at mark.Link }
     ensures places { Placed at result }
 {
-    let contributors = part_at(file, at, 64)?;
+    let (need, contributors) = owned_part(file, at, 64)?;
     let end = contributors.place + contributors.bytes.len();
-    Ok((
-        Record::Link {
-            need: file[usize::from(at) + 2],
-            contributors,
-        },
-        end,
-    ))
+    Ok((Record::Link { need, contributors }, end))
 }
 
 fn name_at<'a>(file: &'a [u8], at: u16) -> Result<(Record<'a>, usize), ReaderFault>
     ensures value { shown result ≡ body_at file.now at mark.Name }
     ensures places { Placed at result }
 {
-    let name = part_at(file, at, 24)?;
+    let (step, name) = owned_part(file, at, 24)?;
     let end = name.place + name.bytes.len();
-    Ok((
-        Record::Name {
-            step: file[usize::from(at) + 2],
-            name,
-        },
-        end,
-    ))
+    Ok((Record::Name { step, name }, end))
 }
 
 // The record at a place of a file that begins with this mark, and the place after it.

@@ -1,5 +1,6 @@
 -- The bits of a number with one bit more, and the rising list of the numbers that pass a test.
-use Rattle.std.proofs.Common.{◌≡◌, ℕ, zero, suc, ◌+◌, ◌-◌, ◌*◌, ◌/◌, ◌%◌, ◌^◌, ◌<◌, ◌≤◌, Bool, true, false, if◌then◌else◌, ◌&&◌, ◌||◌, nat_lt, ◌==◌, List, [], ◌∷◌, ◌≢◌, ◌⊎◌, filter, All, sym, refl, ap, ◌∙◌, subst, inl, inr, ⊎_elim, arith, pow_pos, pow-add}
+use Rattle.std.proofs.Common.{◌≡◌, ℕ, zero, suc, ◌+◌, ◌-◌, ◌*◌, ◌/◌, ◌%◌, ◌^◌, ◌<◌, ◌≤◌, Bool, true, false, if◌then◌else◌, ◌&&◌, ◌||◌, nat_lt, fold, ◌==◌, List, [], ◌∷◌, ◌≢◌, ◌⊎◌, filter, All, sym, refl, ap, ◌∙◌, subst, inl, inr, ⊎_elim, arith, pow_pos, pow-add}
+use Rattle.std.proofs.Math.Bool.{or-false}
 use native.Mathlib.Nat.{div_self, div-eq_of_lt, mul-mod_right, mod-eq_of_lt, zero-div}
 use Rattle.std.proofs.Math.Pow.{shr_lt}
 use lib.Pow.{pow-lt, shl-shr}
@@ -148,7 +149,7 @@ kept_all P p a (suc n) each = go (p a) refl (kept_all P p (a + 1) n (λ k low hi
     go true e rest = All-cons P a more (each a (omega arith) (omega arith) e) rest
     go false e rest = rest
 
-mem_passes : (P : ℕ → Type 0) (xs : List ℕ) (k : ℕ) → All P xs → mem k xs ≡ true → P k
+pub mem_passes : (P : ℕ → Type 0) (xs : List ℕ) (k : ℕ) → All P xs → mem k xs ≡ true → P k
 mem_passes P [] k all e = absurd (false≢true e)
 mem_passes P (x ∷ xs) k all e =
     elim (or_cases (k == x) (mem k xs) e) [
@@ -198,5 +199,32 @@ module _ (m b : ℕ) (small : m < 2 ^ 64) (inside : b < 64) where
 pub below_64 : (m : ℕ) → All (λ k. k < 64) (ones m)
 unfolding rising
 below_64 m = kept_all (λ k. k < 64) (bit m) 0 64 (λ k low high e. high)
+
+-- a set with some numbers more, one by one
+or_turn : (x y z : Bool) → (x || (y || z)) ≡ ((y || x) || z)
+or_turn true true z = refl
+or_turn true false z = refl
+or_turn false y z = sym (ap (λ (t : Bool). t || z) (or-false y))
+
+added-rising : (p : ℕ → Bool) (c : ℕ) → added (rising p) c ≡ rising (λ k. k == c || p k)
+added-rising p c =
+    elim (cases_lt c 64) [
+      | inl inside ↦ rw (lt-ltb c 64 inside) (rising_same _ _ (λ k h. ap (λ (t : Bool). k == c || t) (mem-rising p k h)))
+      | inr past ↦ rw (le-ltb c 64 past) (rising_same _ _ (λ k h. sym (ap (λ (t : Bool). t || p k) (ne_eqb k c (λ e. omega arith)))))
+    ]
+
+folded : (p : ℕ → Bool) (cs : List ℕ) → fold added (rising p) cs ≡ rising (λ k. mem k cs || p k)
+folded p [] = refl
+folded p (c ∷ cs) =
+    ap (λ (s : List ℕ). fold added s cs) (added-rising p c) ∙ folded (λ k. k == c || p k) cs
+    ∙ rising_same _ _ (λ k h. or_turn (mem k cs) (k == c) (p k))
+
+none_rising : rising (λ _. false) ≡ []
+unfolding rising
+none_rising = refl
+
+pub of_numbers : (cs : List ℕ) → fold added [] cs ≡ rising (λ k. mem k cs)
+of_numbers cs =
+    ap (λ (s : List ℕ). fold added s cs) (sym none_rising) ∙ folded (λ _. false) cs ∙ rising_same _ _ (λ k h. or-false (mem k cs))
 
 pub ruleset set_facts = (ones_of_none, no_ones, below_64, nothing_left_below, below_nothing_left, mem_of_mask, small_more, ones_more, mem_of_more)

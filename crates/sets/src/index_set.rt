@@ -1,5 +1,5 @@
 // A set of numbers below 64: steps or signals.
-ghost use Rattle.std.specs.Prelude.{◌≡◌, ℕ, ◌<◌, ◌^◌, ◌↔◌, [], List, ◌||◌, ◌==◌, IsTrue, All};
+ghost use Rattle.std.specs.Prelude.{◌≡◌, fold, ℕ, ◌<◌, ◌^◌, ◌↔◌, [], List, ◌||◌, ◌==◌, IsTrue, All};
 ghost use Rattle.sets.specs.Sets.{mem, added, ones, of_ones};
 ghost use Rattle.sets.specs.Ones.{of_ones-ones};
 ghost use Rattle.std.proofs.Common.{ap};
@@ -30,6 +30,15 @@ impl IndexSet {
         ensures { result ≡ [] }
     {
         IndexSet { mask: 0 }
+    }
+
+    // The set of these numbers, of which those past 63 do not count.
+    pub fn of(numbers: &[u8]) -> IndexSet
+        ensures { result ≡ fold added [] numbers.now }
+    {
+        numbers
+            .iter()
+            .fold(IndexSet::empty(), |set, number| set.with(*number))
     }
 
     pub fn contains(self, index: u8) -> bool

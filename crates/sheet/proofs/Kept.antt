@@ -7,7 +7,7 @@ use Rattle.sheet.specs.declared.parts.Parts.{Parts}
 use Rattle.sheet.specs.Fit.{EffectFits, NeedFits, LinkFits}
 use Rattle.sheet.specs.Keeping.{CountsFit, EffectsFit, NeedsFit, PairsFit}
 use Rattle.sheet.specs.Limits.{Limits, no_need}
-use Rattle.sheet.specs.Model.{Need, need_of, sheet_of}
+use Rattle.sheet.specs.Model.{Need, need_of, model_of}
 
 -- what every element of a list's image passes, every element of the list passes by its image
 All-of_map : {X Y : Type 0} (f : X → Y) (P : Y → Type 0) (e : Y) (xs : List X) → All P (map f xs) → All (λ x. P (f x)) xs
@@ -18,7 +18,7 @@ module _ (p : Parts) where
   starts : vec_len p.starts ≡ length (vec_items p.starts)
   starts = p.starts.ok.0
 
-  pub limits_of : CountsFit p → EffectsFit p → NeedsFit p → PairsFit p → Limits (sheet_of p)
+  pub limits_of : CountsFit p → EffectsFit p → NeedsFit p → PairsFit p → Limits (model_of p)
   limits_of counts effects needs pairs =
       record {
         step_count = counts.step_count;
@@ -32,7 +32,7 @@ module _ (p : Parts) where
         pairs_fit = pairs;
       }
 
-  pub counts_of : Limits (sheet_of p) → CountsFit p
+  pub counts_of : Limits (model_of p) → CountsFit p
   counts_of limits =
       record {
         step_count = limits.step_count;
@@ -40,14 +40,14 @@ module _ (p : Parts) where
         part_counts = (omega (arith, limits.part_counts, p.effects.ok), omega (arith, limits.part_counts, p.needs.ok, length-map (vec_items p.needs) need_of), omega (arith, limits.part_counts, p.pairs.ok));
       }
 
-  pub effects_of : Limits (sheet_of p) → EffectsFit p
+  pub effects_of : Limits (model_of p) → EffectsFit p
   effects_of limits =
       record {
         fit = subst (λ (v : ℕ). All (EffectFits p.steps v) (vec_items p.effects)) (sym starts) limits.effects_fit;
         single = limits.effects_single;
       }
 
-  pub needs_of : Limits (sheet_of p) → NeedsFit p
+  pub needs_of : Limits (model_of p) → NeedsFit p
   needs_of limits =
       record {
         fit = subst (λ (v : ℕ). All (λ (n : HeldNeed). NeedFits p.steps v n.step n.signal) (vec_items p.needs)) (sym starts)
@@ -55,7 +55,7 @@ module _ (p : Parts) where
         links = All-of_map need_of (λ (n : Need). LinkFits p.steps n.link) no_need (vec_items p.needs) limits.links_fit;
       }
 
-  pub pairs_of : Limits (sheet_of p) → PairsFit p
+  pub pairs_of : Limits (model_of p) → PairsFit p
   pairs_of limits = limits.pairs_fit
 
 pub ruleset limit_facts = (limits_of, counts_of, effects_of, needs_of, pairs_of)

@@ -3,7 +3,7 @@
 --   Sheet       the steps' number, the start word of each signal, the effects, needs and pairs in file order
 --   link_of l   the contributors of a link
 --   need_of n   the need that the code holds
---   sheet_of p  the sheet of these parts, as the code holds them
+--   model_of p  the sheet of these parts, as the code holds them
 use Rattle.std.specs.Prelude.{ℕ, List, [], map, Some, None, Option, vec_items}
 use Rattle.sheet.specs.declared.parts.Effect.{Effect}
 use Rattle.sheet.specs.declared.parts.Pair.{Pair}
@@ -31,6 +31,6 @@ link_of (Some contributors) = contributors
 abbrev pub need_of : HeldNeed → Need
 need_of n = record { step = n.step; signal = n.signal; a = n.a; b = n.b; link = link_of n.link }
 
-abbrev pub sheet_of : Parts → Sheet
-sheet_of p =
+abbrev pub model_of : Parts → Sheet
+model_of p =
     record { steps = p.steps; starts = vec_items p.starts; effects = vec_items p.effects; needs = map need_of (vec_items p.needs); pairs = vec_items p.pairs }

@@ -3,7 +3,7 @@ ghost use Rattle.std.specs.Prelude.{◌≡◌, ◌<◌, ◌≤◌, ◌↔◌, Is
 ghost use Rattle.sheet.specs.Fit.{EffectFits, SameTarget, NeedFits, LinkFits, PairFits};
 ghost use Rattle.sheet.specs.Keeping.{CountsFit, EffectsFit, NeedsFit, PairsFit};
 ghost use Rattle.sheet.specs.Limits.{Limits};
-ghost use Rattle.sheet.specs.Model.{link_of, sheet_of};
+ghost use Rattle.sheet.specs.Model.{link_of, model_of};
 
 use crate::parts::{Effect, Need, Pair, Parts};
 
@@ -103,7 +103,7 @@ impl Parts {
     // Whether these are the parts of a sheet.
     #[tactic(auto, using(crate::proofs::Kept::limit_facts))]
     pub(crate) fn fit(&self) -> bool
-        ensures { IsTrue result ↔ Limits (sheet_of self.now) }
+        ensures { IsTrue result ↔ Limits (model_of self.now) }
     {
         self.counts_fit() && self.effects_fit() && self.needs_fit() && self.pairs_fit()
     }

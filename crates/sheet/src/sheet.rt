@@ -1,7 +1,7 @@
 // A sheet: the steps of a start, a change-over or a clearing, and what each needs and sets.
-ghost use Rattle.std.specs.Prelude.{◌≡◌, map, MatchOption};
+ghost use Rattle.std.specs.Prelude.{◌≡◌, ◌↔◌, map, IsSome, IfSome};
 ghost use Rattle.sheet.specs.Limits.{Limits};
-ghost use Rattle.sheet.specs.Model.{need_of, sheet_of};
+ghost use Rattle.sheet.specs.Model.{need_of, model_of};
 
 use crate::parts::{Effect, Need, Pair, Parts};
 use std::marker::Model;
@@ -18,17 +18,16 @@ impl Model for Sheet {
 
     ghost Value = { model.Sheet };
 
-    ghost view = { λ s. model.sheet_of s.parts };
+    ghost view = { λ s. model.model_of s.parts };
 
-    ghost invariant = { λ s. Limits (model.sheet_of s.parts) };
+    ghost invariant = { λ s. Limits (model.model_of s.parts) };
 }
 
 impl Sheet {
     // The sheet of these parts, exactly if they keep every limit.
     pub fn new(parts: Parts) -> Option<Sheet>
-        ensures { MatchOption result
-            (Limits (sheet_of parts) → ⊥)
-            (λ sheet. (sheet ≡ sheet_of parts) × Limits (sheet_of parts)) }
+        ensures exact { IsSome result ↔ Limits (model_of parts) }
+        ensures value { IfSome result (λ sheet. sheet ≡ model_of parts) }
     {
         if parts.fit() {
             Some(Sheet { parts })

@@ -1,8 +1,6 @@
-use Rattle.std.proofs.Common.{false, refl, ap, ◌∙◌}
+use Rattle.std.proofs.Common.{[], false, refl, ap, ◌∙◌}
 use Rattle.std.proofs.lemmas.List.{get_or-replicate}
-use Rattle.sets.specs.declared.index_set.IndexSet.{IndexSet}
-use Rattle.sets.specs.Sets.{has, empty_set}
-use Rattle.sets.proofs.Bits.{empty_has}
+use Rattle.sets.specs.Sets.{mem}
 use Rattle.reader.proofs.ledger.Ledger.new.Goals as goal
 
 pub returns : goal.returns
@@ -13,7 +11,7 @@ returns c = record {
   effects = refl;
   needs = refl;
   pairs = refl;
-  set_by = λ w x h k. ap (λ (s : IndexSet). has s x) (get_or-replicate 64 w c.empty-none.result empty_set h ∙ c.empty-none.ensures) ∙ empty_has x;
+  set_by = λ w x h k. ap (mem x) (get_or-replicate 64 w c.empty-none.result [] h ∙ c.empty-none.ensures);
   linked = λ n h. get_or-replicate 256 n false false h;
-  named = λ w h. ap (λ (s : IndexSet). has s w) c.empty-none.ensures ∙ empty_has w;
+  named = λ w h. ap (mem w) c.empty-none.ensures;
 }

@@ -1,4 +1,4 @@
-use Rattle.std.proofs.Common.{sym, refl, ap, ◌∙◌}
+use Rattle.std.proofs.Common.{sym, ap, ◌∙◌}
 use Rattle.std.proofs.lemmas.Result.{err_from_is_err_and}
 use Rattle.records.specs.declared.record.Mark.{Mark}
 use Rattle.reader.specs.Lawful.{stands_after}
@@ -7,30 +7,22 @@ use Rattle.reader.proofs.Nexts.{shows_stands, no_mark, misplaced, no_body, refus
 use Rattle.records.proofs.Bodies.{body_is, mark_inside}
 use Rattle.reader.proofs.ledger.Ledger.read_record.Goals as goal
 
-pub returns-in_err-mark : goal.returns-in_err-mark
-returns-in_err-mark c =
+pub returns-in_err-mark-clause-value : goal.returns-in_err-mark-clause-value
+returns-in_err-mark-clause-value c s shows =
     let p = err_from_is_err_and c.from_residual.result c.from_residual.ensures.1 in
-    rw (p.1, p.2) (record { value = λ s shows. no_mark c.args.file.now s c.args.at _ c.in_err-mark.ensures; after = tt; places = tt })
+    rw (p.1, p.2) (no_mark c.args.file.now s c.args.at _ c.in_err-mark.ensures)
 
-pub returns-then-not-may_stand : goal.returns-then-not-may_stand
-returns-then-not-may_stand c =
-    record {
-      value = λ s shows. misplaced c.args.file.now s c.args.at c.in_ok-mark.mark c.in_ok-mark.ensures
-          (c.if-not-may_stand.ensures ∙ shows_stands c.args.self.now s c.in_ok-mark.mark shows);
-      after = tt;
-      places = tt;
-    }
+pub returns-then-not-may_stand-clause-value : goal.returns-then-not-may_stand-clause-value
+returns-then-not-may_stand-clause-value c s shows =
+    misplaced c.args.file.now s c.args.at c.in_ok-mark.mark c.in_ok-mark.ensures
+    (c.if-not-may_stand.ensures ∙ shows_stands c.args.self.now s c.in_ok-mark.mark shows)
 
-pub returns-in_err-record : goal.returns-in_err-record
-returns-in_err-record c =
+pub returns-in_err-record-clause-value : goal.returns-in_err-record-clause-value
+returns-in_err-record-clause-value c s shows =
     let p = err_from_is_err_and c.from_residual-in_err-record.result c.from_residual-in_err-record.ensures.1 in
     rw (p.1, p.2)
-    (record {
-      value = λ s shows. no_body c.args.file.now s c.args.at c.in_ok-mark.mark c.in_ok-mark.ensures _
-          (c.if-not-may_stand.ensures ∙ shows_stands c.args.self.now s c.in_ok-mark.mark shows) c.in_err-record.ensures.value;
-      after = tt;
-      places = tt;
-    })
+    (no_body c.args.file.now s c.args.at c.in_ok-mark.mark c.in_ok-mark.ensures _
+    (c.if-not-may_stand.ensures ∙ shows_stands c.args.self.now s c.in_ok-mark.mark shows) c.in_err-record.ensures.value)
 
 pub admit-requires : goal.admit-requires
 admit-requires c =
@@ -43,22 +35,14 @@ admit-requires c =
           ∙ sym c.if-not-may_stand.ensures;
     }
 
-pub returns-in-Some : goal.returns-in-Some
-returns-in-Some c =
-    record {
-      value = λ s shows. refused c.args.file.now s c.args.at c.in_ok-mark.mark c.in_ok-mark.ensures _ _ _
-          (c.if-not-may_stand.ensures ∙ shows_stands c.args.self.now s c.in_ok-mark.mark shows)
-          c.in_ok-record.ensures.value (c.in-Some.ensures s shows).0;
-      after = tt;
-      places = tt;
-    }
+pub returns-in-Err-clause-value : goal.returns-in-Err-clause-value
+returns-in-Err-clause-value c s shows =
+    refused c.args.file.now s c.args.at c.in_ok-mark.mark c.in_ok-mark.ensures _ _ _
+    (c.if-not-may_stand.ensures ∙ shows_stands c.args.self.now s c.in_ok-mark.mark shows)
+    c.in_ok-record.ensures.value (sym (c.in-Err.ensures s shows))
 
-pub returns-in-None : goal.returns-in-None
-returns-in-None c =
-    record {
-      value = λ s shows. accepted c.args.file.now s c.args.at c.in_ok-mark.mark c.in_ok-mark.ensures _ _
-          (c.if-not-may_stand.ensures ∙ shows_stands c.args.self.now s c.in_ok-mark.mark shows)
-          c.in_ok-record.ensures.value (c.in-None.ensures s shows).0;
-      after = λ s shows. (c.in-None.ensures s shows).1 refl;
-      places = c.in_ok-record.ensures.places;
-    }
+pub returns-in-Ok-clause-value : goal.returns-in-Ok-clause-value
+returns-in-Ok-clause-value c s shows =
+    accepted c.args.file.now s c.args.at c.in_ok-mark.mark c.in_ok-mark.ensures _ _
+    (c.if-not-may_stand.ensures ∙ shows_stands c.args.self.now s c.in_ok-mark.mark shows)
+    c.in_ok-record.ensures.value (sym (c.in-Ok.ensures s shows).0)
