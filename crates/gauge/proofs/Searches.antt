@@ -1,8 +1,11 @@
 -- A search from 0 up finds the lowest word of a set.
-use Rattle.std.proofs.Common.{◌≡◌, ℕ, zero, suc, ◌+◌, ◌<◌, ◌≤◌, true, false, Some, None, Option, sym, refl, ap, ◌∙◌, subst, inl, inr, arith}
+use Rattle.std.proofs.Common.{◌≡◌, ℕ, zero, suc, ◌+◌, ◌<◌, ◌≤◌, true, false, Some, None, Option, find, sym, refl, ap, ◌∙◌, subst, inl, inr, arith}
+use Rattle.std.specs.List.{range_with_len}
+use Rattle.std.specs.Option.{option_map}
 use Rattle.std.proofs.lemmas.Bool.{cases_Bool, cases_eq, cases_order, true≢false}
+use Rattle.std.proofs.lemmas.Iterator.Adapters.{option_map_id}
 use Rattle.gauge.specs.Meaning.{Words}
-use Rattle.gauge.specs.Lowest.{lowest_from, lowest_word, Lowest, LowestExactly}
+use Rattle.gauge.specs.Lowest.{lowest_word, Lowest, LowestExactly}
 
 -- what a search from k on, among n numbers, answers
 abbrev From : Words → ℕ → ℕ → Option ℕ → Type 0
@@ -23,12 +26,12 @@ wider words k n (Some word) out (low, high, in-set, none) =
     (omega arith, omega arith, in-set, λ other from below. past words k other out from (λ h. none other h below))
 wider words k n None out none = λ other from below. past words k other out from (λ h. none other h (omega arith))
 
-found : (words : Words) (k n : ℕ) → From words k n (lowest_from words k n)
+found : (words : Words) (k n : ℕ) → From words k n (find words (range_with_len k n))
 found words k zero = λ other low high. absurd (omega arith)
 found words k (suc n) =
     elim (cases_Bool (words k)) [
       | inl in-set ↦ rw in-set (omega arith, omega arith, in-set, λ other low high. absurd (omega arith))
-      | inr out ↦ rw out (wider words k n (lowest_from words (k + 1) n) out (found words (k + 1) n))
+      | inr out ↦ rw out (wider words k n (find words (range_with_len (k + 1) n)) out (found words (k + 1) n))
     ]
 
 one_lowest : (words : Words) (r s : Option ℕ) → Lowest words r → Lowest words s → r ≡ s
@@ -48,19 +51,13 @@ from_start words None none = λ other below. none other (omega arith) below
 
 lowest : (words : Words) → Lowest words (lowest_word words)
 unfolding lowest_word
-lowest words = from_start words (lowest_from words 0 65536) (found words 0 65536)
+lowest words = from_start words (find words (range_with_len 0 65536)) (found words 0 65536)
 
 pub lowest_exactly : LowestExactly
 lowest_exactly words r =
     (λ e. subst (Lowest words) e (lowest words), λ h. one_lowest words (lowest_word words) r (lowest words) h)
 
--- a search that has passed every word and the last one too finds none
-pub none_found : (words : Words) (last : ℕ) → 65535 ≤ last → ((other : ℕ) → other < last → words other ≡ false) → words last ≡ false → None ≡ lowest_word words
-none_found words last end below here = sym ((lowest_exactly words None).1 all)
-  where
-    all : (other : ℕ) → other < 65536 → words other ≡ false
-    all other word =
-        elim (cases_eq last other) [
-          | inl e ↦ subst (λ (j : ℕ). words j ≡ false) e here
-          | inr ne ↦ below other (omega arith)
-        ]
+-- `find` over every word answers it
+pub found_first : (words : Words) (r : Option ℕ) → option_map (λ word. word) r ≡ find words (range_with_len 0 65536) → r ≡ lowest_word words
+unfolding lowest_word
+found_first words r e = sym (option_map_id r) ∙ e

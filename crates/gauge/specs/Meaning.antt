@@ -7,7 +7,7 @@
 --   levels        the words from a to b, all three signed
 --   split k g h   g for the signals below k, h for the others
 --   standard      positions below 32, levels from 32 on
-use Rattle.std.specs.Prelude.{ℕ, ◌/◌, ◌%◌, ◌^◌, Bool, cond, ◌&&◌, ℤ, pos, ◌-ℤ◌, ◌==◌, int_le, nat_lt}
+use Rattle.std.specs.Prelude.{ℕ, ◌/◌, ◌%◌, ◌^◌, Bool, if◌then◌else◌, ◌&&◌, ℤ, pos, ◌-ℤ◌, ◌==◌, int_le, nat_lt}
 
 abbrev pub Words : Type 0
 Words = ℕ → Bool
@@ -22,13 +22,13 @@ abbrev pub positions : GaugeMeaning
 positions signal a b word = nat_lt word 16 && (bit a word == 1 && b == 0)
 
 abbrev pub signed : ℕ → ℤ
-signed word = cond (nat_lt word 32768) (pos word) (pos word -ℤ pos 65536)
+signed word = if nat_lt word 32768 then pos word else (pos word -ℤ pos 65536)
 
 abbrev pub levels : GaugeMeaning
 levels signal a b word = int_le (signed a) (signed word) && int_le (signed word) (signed b)
 
 abbrev pub split : ℕ → GaugeMeaning → GaugeMeaning → GaugeMeaning
-split k first second signal a b word = cond (nat_lt signal k) (first signal a b word) (second signal a b word)
+split k first second signal a b word = if nat_lt signal k then first signal a b word else second signal a b word
 
 abbrev pub standard : GaugeMeaning
 standard = split 32 positions levels
