@@ -90,12 +90,6 @@ partly_next p words n sound fine inside =
     ∙ sym (ap (λ (l : List ℕ). l ++ drop (n + 1) p.words) (take_more words n 0 inside) ∙ append_assoc before (w ∷ []) (drop (n + 1) p.words)) in
     rw (lt-ltb n p.count here, le-leb w p.top low, more) refl
 
-pub partly_more : (p : PlantMeaning) (words : List ℕ) (n s : ℕ) (q : PlantMeaning) → Sound p → setting p words ≡ Ok tt → n < length words → s ≡ n → q ≡ partly p words n
-    → written q s (get_or words n 0) ≡ partly p words (n + 1)
-partly_more p words n s q sound done inside at is =
-    ap (λ (j : ℕ). written q j (get_or words n 0)) at
-    ∙ ap (λ (r : PlantMeaning). written r n (get_or words n 0)) is
-    ∙ partly_next p words n sound (accepted_all p words done) inside
-
-pub partly_all : (p : PlantMeaning) (words : List ℕ) → setting p words ≡ Ok tt → partly p words (length words) ≡ all_set p words
-partly_all p words done = rw (take_all (length words) words (omega arith), done) refl
+pub partly_more : (p : PlantMeaning) (words : List ℕ) (n : ℕ) → Sound p → setting p words ≡ Ok tt → n < length words
+    → written (partly p words n) n (get_or words n 0) ≡ partly p words (n + 1)
+partly_more p words n sound done inside = partly_next p words n sound (accepted_all p words done) inside

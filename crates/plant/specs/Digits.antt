@@ -1,7 +1,7 @@
 -- The binary digits of a number, and of that number with one of them changed.
-use Rattle.std.specs.Prelude.{◌≡◌, ℕ, zero, suc, ◌+◌, ◌/◌, ◌%◌, ◌^◌, ◌<◌, ◌≤◌, ◌≢◌, List, ◌∷◌, length, replicate, bit_xor, slice_index, slice_set, refl}
+use Rattle.std.specs.Prelude.{◌≡◌, ℕ, zero, suc, ◌+◌, ◌*◌, ◌/◌, ◌%◌, ◌^◌, ◌<◌, ◌≤◌, ◌≢◌, List, ◌∷◌, length, replicate, bit_xor, slice_index, slice_set, refl}
 use Rattle.std.proofs.Common.{sym, ap, ◌∙◌, inl, inr, arith, length-set, shr-shr, get_or-set_same, get_or-set_other, ext_get_or}
-use Rattle.std.proofs.lemmas.Nat.{xor_shr, xor_mod}
+use Rattle.std.proofs.lemmas.Nat.{xor_shr, xor_mod, one_shl}
 use Rattle.std.specs.Int.Bits.{xor_zero_r}
 use Rattle.std.proofs.lemmas.Bool.{cases_eq}
 use Rattle.sets.proofs.Bits.{pow_bit_same, pow_bit_other}
@@ -23,10 +23,10 @@ digit_at (suc n) m (suc k) h =
     let next : 1 + k ≡ suc k = omega arith in
     digit_at n (m / 2) k (omega arith) ∙ ap (λ (x : ℕ). x % 2) (shr-shr m 1 k) ∙ ap (λ (x : ℕ). m / 2 ^ x % 2) next
 
-pub digits-zero : (n : ℕ) → digits n 0 ≡ replicate n 0
+pub digits_zero : (n : ℕ) → digits n 0 ≡ replicate n 0
 unfolding digits
-digits-zero zero = refl
-digits-zero (suc n) = ap (λ (r : List ℕ). 0 ∷ r) (digits-zero n)
+digits_zero zero = refl
+digits_zero (suc n) = ap (λ (r : List ℕ). 0 ∷ r) (digits_zero n)
 
 -- to flip the digit s leaves every other
 flip_other : (m s k : ℕ) → k ≢ s → bit_xor m (2 ^ s) / 2 ^ k % 2 ≡ m / 2 ^ k % 2
@@ -71,9 +71,10 @@ pub digits_flip : (n m s w : ℕ) → s < n → w ≤ 1 → slice_index (digits 
 digits_flip n m s w inside small ne =
     digits-set n m (bit_xor m (2 ^ s)) s w inside (flip_other m s) (flip_same m s w small (λ e. ne (digit_at n m s inside ∙ e)))
 
--- a digit that is w may be set to w
-pub digits_keep : (n m s w : ℕ) → s < n → slice_index (digits n m) s ≡ w → digits n m ≡ slice_set (digits n m) s w
-digits_keep n m s w inside here = digits-set n m m s w inside (λ k ne. refl) (sym (digit_at n m s inside) ∙ here)
+-- the same in the code's words
+pub panel_flip : (m s w : ℕ) → s < 128 → w ≤ 1 → slice_index (digits 128 m) s ≢ w → digits 128 (bit_xor m (1 * 2 ^ s % 2 ^ 128)) ≡ slice_set (digits 128 m) s w
+panel_flip m s w inside small ne =
+    ap (λ (x : ℕ). digits 128 (bit_xor m x)) (one_shl s 128 inside) ∙ digits_flip 128 m s w inside small ne
 
 pub panel_sound : (p : Panel) → Sound (panel_meaning p)
 panel_sound p =
