@@ -1,20 +1,14 @@
 -- Writing a list of words to the signals from 0 on.
-use Rattle.std.proofs.Common.{◌≡◌, ℕ, ◌+◌, ◌<◌, ◌≤◌, ◌⊎◌, List, [], ◌∷◌, ◌++◌, length, get_or, take, drop, set, Ok, Err, Result, sym, refl, ap, ◌∙◌, subst, inl, inr, append_assoc, arith, length-take-le}
+use Rattle.std.proofs.Common.{◌≡◌, ℕ, ◌+◌, ◌<◌, ◌≤◌, ◌⊎◌, List, [], ◌∷◌, ◌++◌, length, get_or, take, drop, set, Ok, Err, Result, sym, refl, ap, ◌∙◌, inl, inr, append_assoc, arith, length-take-le}
 use lib.Seq.{set_at}
-use Rattle.std.proofs.lemmas.List.{take_all, take_more, drop_all, drop_more}
+use Rattle.std.specs.Result.{result_and}
+use Rattle.std.proofs.lemmas.List.{take_more, drop_all, drop_more}
 use Rattle.std.proofs.lemmas.Bool.{cases_lt, lt-ltb, le-ltb, le-leb, lt-leb}
 use Rattle.faults.specs.declared.fault.PlantFault.{PlantFault}
 use Rattle.faults.specs.declared.fault.PlantFault.TheVariants.{NoSignal, AboveTop}
 use Rattle.plant.specs.Meaning.{PlantMeaning, Sound, writing, written}
 use Rattle.plant.proofs.Firsts.{Until, passed, first_bad}
-use Rattle.plant.specs.Setting.{then, setting_from, setting, all_set}
-
-abbrev IsOk : Result Unit PlantFault → Type 0
-IsOk (Ok done) = Unit
-IsOk (Err fault) = ⊥
-
-ok_not_err : (r : Result Unit PlantFault) (fault : PlantFault) → r ≡ Ok tt → r ≡ Err fault → ⊥
-ok_not_err r fault done refused = subst IsOk (sym done ∙ refused) tt
+use Rattle.plant.specs.Setting.{setting_from, setting}
 
 -- the word w may be written to the signal k; or it is refused
 abbrev Writable : PlantMeaning → ℕ → ℕ → Type 0
@@ -60,13 +54,13 @@ module _ (p : PlantMeaning) (words : List ℕ) where
   one_refused n fault inside fine refused =
       skip n (omega arith) fine
       ∙ ap (setting_from p n) (drop_more words n 0 inside)
-      ∙ ap (λ (r : Result Unit PlantFault). then r (setting_from p (n + 1) (drop (n + 1) words))) refused
+      ∙ ap (λ (r : Result Unit PlantFault). result_and r (setting_from p (n + 1) (drop (n + 1) words))) refused
 
   pub accepted_all : setting p words ≡ Ok tt → Accepted p words (length words)
   accepted_all done =
       elim (first_bad (Writable p) words (Refused p) (writable_or_not p) (length words)) [
         | inl fine ↦ fine
-        | inr (k, inside, fine, (fault, refused)) ↦ absurd (ok_not_err (setting p words) fault done (one_refused k fault inside fine refused))
+        | inr (k, inside, fine, (fault, refused)) ↦ let no = one_refused k fault inside fine refused in cc
       ]
 
 -- the plant after the first n words were written

@@ -1,5 +1,5 @@
 -- The front of a list of zeros.
-use Rattle.std.proofs.Common.{◌≡◌, ℕ, List, ◌<◌, ◌≤◌, min, take, length, replicate, slice_index, inl, inr, ap, ◌∙◌, refl, arith}
+use Rattle.std.proofs.Common.{◌≡◌, ℕ, ◌<◌, min, take, replicate, slice_index, inl, inr, ap, ◌∙◌, arith}
 use Rattle.std.proofs.lemmas.List.{length-replicate, take-replicate, take_all, get_or-replicate}
 use Rattle.std.proofs.lemmas.Bool.{cases_lt}
 

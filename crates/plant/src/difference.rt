@@ -8,10 +8,7 @@ use crate::plant::Plant;
 fn holds<P: Plant>(plant: &P, signal: u16, word: u16) -> bool
     ensures { result ≡ holds (P.meaning plant.now) signal word }
 {
-    match plant.read(signal) {
-        Ok(held) => held == word,
-        Err(_) => false,
-    }
+    plant.read(signal).is_ok_and(|held| held == word)
 }
 
 // The lowest signal that has not the word at its place in the list, or is not there at all.

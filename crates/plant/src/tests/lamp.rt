@@ -2,7 +2,7 @@
 ghost use Rattle.std.specs.Prelude.{◌≤◌, [], ◌∷◌};
 ghost use Rattle.std.proofs.Common.{rules};
 
-use crate::{check_signal, check_word, Plant};
+use crate::{Plant, check_signal, check_word};
 use faults::fault::PlantFault;
 
 // One signal, dark at 0 and lit at 1.
