@@ -1,10 +1,9 @@
 -- The binary digits of a number, and of that number with one of them changed.
 use Rattle.std.specs.Prelude.{◌≡◌, ℕ, zero, suc, ◌+◌, ◌*◌, ◌/◌, ◌%◌, ◌^◌, ◌<◌, ◌≤◌, ◌≢◌, List, ◌∷◌, length, replicate, bit_xor, slice_index, slice_set, refl}
 use Rattle.std.proofs.Common.{sym, ap, ◌∙◌, inl, inr, arith, length-set, shr-shr, get_or-set_same, get_or-set_other, ext_get_or}
-use Rattle.std.proofs.lemmas.Nat.{xor_shr, xor_mod, one_shl}
-use Rattle.std.specs.Int.Bits.{xor_zero_r}
+use Rattle.std.proofs.lemmas.Nat.{one_shl}
+use Rattle.std.proofs.lemmas.Nat.Bits.{bit_at_xor, bit_at-pow_same, bit_at-pow_other}
 use Rattle.std.proofs.lemmas.Bool.{cases_eq}
-use Rattle.sets.proofs.Bits.{pow_bit_same, pow_bit_other}
 use Rattle.plant.specs.declared.panel.Panel.{Panel}
 use Rattle.plant.specs.Meaning.{Sound}
 use Rattle.plant.specs.Plants.{digits, panel_meaning}
@@ -30,28 +29,11 @@ digits_zero (suc n) = ap (λ (r : List ℕ). 0 ∷ r) (digits_zero n)
 
 -- to flip the digit s leaves every other
 flip_other : (m s k : ℕ) → k ≢ s → bit_xor m (2 ^ s) / 2 ^ k % 2 ≡ m / 2 ^ k % 2
-flip_other m s k ne =
-    ap (λ (x : ℕ). x % 2) (xor_shr m (2 ^ s) k)
-    ∙ xor_mod (m / 2 ^ k) (2 ^ s / 2 ^ k) 1
-    ∙ ap (bit_xor (m / 2 ^ k % 2)) (pow_bit_other s k ne)
-    ∙ xor_zero_r (m / 2 ^ k % 2)
-
-xor_one : (a w : ℕ) → a < 2 → w ≤ 1 → a ≢ w → bit_xor a 1 ≡ w
-xor_one zero zero h small ne = absurd (ne refl)
-xor_one zero (suc zero) h small ne = refl
-xor_one zero (suc (suc w)) h small ne = absurd (omega arith)
-xor_one (suc zero) zero h small ne = refl
-xor_one (suc zero) (suc zero) h small ne = absurd (ne refl)
-xor_one (suc zero) (suc (suc w)) h small ne = absurd (omega arith)
-xor_one (suc (suc a)) w h small ne = absurd (omega arith)
+flip_other m s k ne = omega (arith, bit_at_xor m (2 ^ s) k, bit_at-pow_other s k ne)
 
 -- and that digit becomes the other one
 flip_same : (m s w : ℕ) → w ≤ 1 → m / 2 ^ s % 2 ≢ w → bit_xor m (2 ^ s) / 2 ^ s % 2 ≡ w
-flip_same m s w small ne =
-    ap (λ (x : ℕ). x % 2) (xor_shr m (2 ^ s) s)
-    ∙ xor_mod (m / 2 ^ s) (2 ^ s / 2 ^ s) 1
-    ∙ ap (bit_xor (m / 2 ^ s % 2)) (pow_bit_same s)
-    ∙ xor_one (m / 2 ^ s % 2) w (omega arith) small ne
+flip_same m s w small ne = omega (arith, bit_at_xor m (2 ^ s) s, bit_at-pow_same s)
 
 -- two numbers that differ in no digit but s
 digits-set : (n m o s w : ℕ) → s < n → ((k : ℕ) → k ≢ s → o / 2 ^ k % 2 ≡ m / 2 ^ k % 2) → o / 2 ^ s % 2 ≡ w → digits n o ≡ slice_set (digits n m) s w

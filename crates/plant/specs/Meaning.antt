@@ -1,14 +1,14 @@
 -- What plants mean.
---   PlantMeaning     a count, a top word, and the words of the signals from 0 on
---   Sound p          count and top are 16-bit numbers; each signal below the count has a word, none above the top
---   finding n s      whether the signal s is one of n signals, or the fault that it is not
---   accepting n t s w  whether one of n signals, with the top word t, takes the word w, or the first fault
---   reading p s      what a read of the signal s answers
---   writing p s w    what a write of the word w to the signal s answers
---   with_word p s w  the plant with the word of the signal s set to w, and no other word
---   written p s w    the plant after the write: with that word if it is accepted, else as it was
---   zeros n t        n signals at 0, with the top word t
---   of_words l       a signal for each word of the list l, with the top word 65535
+--   PlantMeaning       a count, a top word, and the words of the signals from 0 on
+--   Sound p            count and top are 16-bit numbers; each signal below the count has a word, none above the top
+--   finding n s        that the signal s is one of n signals, or the fault that it is not
+--   accepting n t s w  that the word w may be written to the signal s of n signals with the top word t, or the first fault
+--   reading p s        what a read of the signal s answers
+--   writing p s w      what a write of the word w to the signal s answers
+--   with_word p s w    the plant with the word of the signal s set to w, and no other word
+--   written p s w      the plant after the write: with that word if it is accepted, else as it was
+--   zeros n t          n signals at 0, with the top word t
+--   plant_of_words l   a signal for each word of the list l, with the top word 65535
 use Rattle.std.specs.Prelude.{◌≡◌, ℕ, ◌<◌, ◌≤◌, if◌then◌else◌, ◌&&◌, List, length, replicate, Ok, Err, Result, nat_le, nat_lt, slice_index, slice_set}
 use Rattle.faults.specs.declared.fault.PlantFault.{PlantFault}
 use Rattle.faults.specs.declared.fault.PlantFault.TheVariants.{NoSignal, AboveTop}
@@ -43,5 +43,5 @@ written p signal word = if nat_lt signal p.count && nat_le word p.top then with_
 abbrev pub zeros : ℕ → ℕ → PlantMeaning
 zeros count top = record { count = count; top = top; words = replicate count 0 }
 
-abbrev pub of_words : List ℕ → PlantMeaning
-of_words words = record { count = length words; top = 65535; words = words }
+abbrev pub plant_of_words : List ℕ → PlantMeaning
+plant_of_words words = record { count = length words; top = 65535; words = words }

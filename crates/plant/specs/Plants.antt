@@ -5,10 +5,10 @@
 use Rattle.std.specs.Prelude.{ℕ, zero, suc, ◌/◌, ◌%◌, List, [], ◌∷◌}
 use Rattle.plant.specs.declared.rack.Rack.{Rack}
 use Rattle.plant.specs.declared.panel.Panel.{Panel}
-use Rattle.plant.specs.Meaning.{PlantMeaning, of_words}
+use Rattle.plant.specs.Meaning.{PlantMeaning, plant_of_words}
 
 abbrev pub rack_meaning : Rack → PlantMeaning
-rack_meaning r = of_words r.words.items
+rack_meaning r = plant_of_words r.words.items
 
 unfoldable pub digits : ℕ → ℕ → List ℕ
 digits zero m = []

@@ -4,8 +4,8 @@ ghost use Rattle.plant.specs.Meaning.{finding, accepting};
 
 use faults::fault::PlantFault;
 
-// Whether a plant of that many signals has this one. These two take numbers and no plant: the check makes no proof of a
-// plant's call that is passed its own plant.
+// Whether one of so many signals is this one. These are no methods of `Plant`, and take numbers: a call of a plant that
+// passes on the plant itself gets no proof.
 pub fn check_signal(count: u16, signal: u16) -> Result<(), PlantFault>
     ensures { result ≡ finding count signal }
 {
@@ -15,7 +15,7 @@ pub fn check_signal(count: u16, signal: u16) -> Result<(), PlantFault>
     Ok(())
 }
 
-// Whether such a plant, with that top word, takes the word.
+// Whether a write of the word to one of so many signals, with that top word, is accepted.
 pub fn check_word(count: u16, top: u16, signal: u16, word: u16) -> Result<(), PlantFault>
     ensures { result ≡ accepting count top signal word }
 {

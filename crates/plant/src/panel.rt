@@ -6,7 +6,7 @@ use crate::checks::{check_signal, check_word};
 use crate::plant::Plant;
 use faults::fault::PlantFault;
 
-// Bit k, the lowest being bit 0, is the word of signal k.
+// Bit k, the lowest being bit 0, is the word of signal k. Packed by rule: a panel takes 16 bytes.
 #[derive(Drop)]
 pub struct Panel {
     bits: u128,

@@ -1,16 +1,17 @@
 // A rack: up to 128 signals, each with a word of 16 bits.
 ghost use Rattle.std.specs.Prelude.{◌≡◌, min};
-ghost use Rattle.plant.specs.Meaning.{Sound, of_words, zeros};
+ghost use Rattle.plant.specs.Meaning.{Sound, plant_of_words, zeros};
 
 use crate::checks::{check_signal, check_word};
 use crate::plant::Plant;
 use arrayvec::ArrayVec;
 use faults::fault::PlantFault;
 
+// The law of a plant rests on `sound`: the model of an ArrayVec bounds neither its length nor its numbers.
 #[derive(Drop)]
 pub struct Rack {
     words: ArrayVec<u16, 128>,
-    ghost sound: { Sound (of_words words.items) },
+    ghost sound: { Sound (plant_of_words words.items) },
 }
 
 impl Rack {
