@@ -1,9 +1,8 @@
 -- Writing a list of words to the signals from 0 on.
 use Rattle.std.proofs.Common.{◌≡◌, ℕ, ◌+◌, ◌<◌, ◌≤◌, ◌⊎◌, List, [], ◌∷◌, ◌++◌, length, get_or, take, drop, set, Ok, Err, Result, sym, refl, ap, ◌∙◌, inl, inr, append_assoc, arith, length-take-le}
-use lib.Seq.{set_at}
 use Rattle.std.specs.Result.{result_and}
-use Rattle.std.proofs.lemmas.List.{take_more, drop_all, drop_more}
-use Rattle.std.proofs.lemmas.Bool.{cases_lt, lt-ltb, le-ltb, le-leb, lt-leb}
+use Rattle.std.proofs.lemmas.List.{set_at, take_more, drop_all, drop_more}
+use Rattle.std.proofs.lemmas.Bool.{cases_lt, lt-ltb, le-leb}
 use Rattle.faults.specs.declared.fault.PlantFault.{PlantFault}
 use Rattle.faults.specs.declared.fault.PlantFault.TheVariants.{NoSignal, AboveTop}
 use Rattle.plant.specs.Meaning.{PlantMeaning, Sound, writing, written}
@@ -22,26 +21,20 @@ abbrev pub Accepted : PlantMeaning → List ℕ → ℕ → Type 0
 Accepted p words n = Until (Writable p) words n
 
 module _ (p : PlantMeaning) (k w : ℕ) where
-  pub accepted : k < p.count → w ≤ p.top → writing p k w ≡ Ok tt
-  accepted here low = rw (lt-ltb k p.count here, le-leb w p.top low)
-
-  pub no_signal : p.count ≤ k → writing p k w ≡ Err (NoSignal k)
-  no_signal off = rw (le-ltb k p.count off)
-
-  pub above_top : k < p.count → p.top < w → writing p k w ≡ Err (AboveTop k)
-  above_top here high = rw (lt-ltb k p.count here, lt-leb w p.top high)
+  accepted : Writable p k w → writing p k w ≡ Ok tt
+  accepted fine = grind arith
 
   writable_or_not : Writable p k w ⊎ Refused p k w
   writable_or_not =
       elim (cases_lt k p.count) [
-        | inl here ↦ elim (cases_lt p.top w) [ inl high ↦ inr (AboveTop k, above_top here high) | inr low ↦ inl (here, low) ]
-        | inr off ↦ inr (NoSignal k, no_signal off)
+        | inl here ↦ elim (cases_lt p.top w) [ inl high ↦ inr (AboveTop k, grind arith) | inr low ↦ inl (here, low) ]
+        | inr off ↦ inr (NoSignal k, grind arith)
       ]
 
 module _ (p : PlantMeaning) (words : List ℕ) where
   -- words that are accepted are passed over
   over : (k w : ℕ) (rest : List ℕ) → Writable p k w → setting_from p k (w ∷ rest) ≡ setting_from p (k + 1) rest
-  over k w rest fine = rw (accepted p k w fine.0 fine.1)
+  over k w rest fine = rw (accepted p k w fine)
 
   skip : (n : ℕ) → n ≤ length words → Accepted p words n → setting p words ≡ setting_from p n (drop n words)
   skip = passed (Writable p) words (setting_from p) over

@@ -1,9 +1,9 @@
 -- The binary digits of a number, and of that number with one of them changed.
 use Rattle.std.specs.Prelude.{◌≡◌, ℕ, zero, suc, ◌+◌, ◌*◌, ◌/◌, ◌%◌, ◌^◌, ◌<◌, ◌≤◌, ◌≢◌, List, ◌∷◌, length, replicate, bit_xor, slice_index, slice_set, refl}
-use Rattle.std.proofs.Common.{sym, ap, ◌∙◌, inl, inr, arith, length-set, shr-shr, get_or-set_same, get_or-set_other, ext_get_or}
+use Rattle.std.proofs.Common.{sym, ap, ◌∙◌, arith, length-set, shr-shr, ext_get_or}
 use Rattle.std.proofs.lemmas.Nat.{one_shl}
 use Rattle.std.proofs.lemmas.Nat.Bits.{bit_at_xor, bit_at-pow_same, bit_at-pow_other}
-use Rattle.std.proofs.lemmas.Bool.{cases_eq}
+use Rattle.std.proofs.lemmas.Grind.{common_steps}
 use Rattle.plant.specs.declared.panel.Panel.{Panel}
 use Rattle.plant.specs.Meaning.{Sound}
 use Rattle.plant.specs.Plants.{digits, panel_meaning}
@@ -41,12 +41,7 @@ digits-set n m o s w h other here =
     ext_get_or 0 (digits n o) (slice_set (digits n m) s w) (length-digits n o ∙ sym (length-set (digits n m) s w ∙ length-digits n m)) same
   where
     same : (k : ℕ) → k < length (digits n o) → slice_index (digits n o) k ≡ slice_index (slice_set (digits n m) s w) k
-    same k lt =
-        let inside : k < n = omega (arith, length-digits n o) in
-        elim (cases_eq k s) [
-          | inl e ↦ rw (e, digit_at n o s h, here, get_or-set_same (digits n m) s w 0 (omega (arith, length-digits n m))) refl
-          | inr ne ↦ digit_at n o k inside ∙ other k ne ∙ sym (digit_at n m k inside) ∙ sym (get_or-set_other (digits n m) s k w 0 ne)
-        ]
+    same k lt = grind (arith, common_steps, digit_at n o k, digit_at n m k, length-digits n m, length-digits n o, other k)
 
 -- a digit that is not w becomes w when it is flipped
 pub digits_flip : (n m s w : ℕ) → s < n → w ≤ 1 → slice_index (digits n m) s ≢ w → digits n (bit_xor m (2 ^ s)) ≡ slice_set (digits n m) s w
