@@ -9,10 +9,5 @@ pub fn lowest_word<G: Gauge>(gauge: &G, signal: u16, a: u16, b: u16) -> Option<u
     ensures value { result ≡ lowest_word (G.meaning gauge.now signal a b) }
     ensures law { LowestExactly }
 {
-    for word in 0..=u16::MAX {
-        if gauge.meets(signal, a, b, word) {
-            return Some(word);
-        }
-    }
-    None
+    (0..=u16::MAX).find(|&word| gauge.meets(signal, a, b, word))
 }

@@ -1,5 +1,5 @@
 -- The search for the first difference finds the lowest.
-use Rattle.std.proofs.Common.{◌≡◌, ℕ, ◌+◌, ◌≤◌, true, false, List, ◌∷◌, length, drop, Some, None, Option, sym, ap, ◌∙◌, subst, inl, inr, arith}
+use Rattle.std.proofs.Common.{◌≡◌, ℕ, ◌+◌, ◌<◌, ◌≤◌, true, false, List, ◌∷◌, length, get_or, drop, Some, None, Option, sym, ap, ◌∙◌, subst, inl, inr, arith}
 use Rattle.std.proofs.lemmas.List.{drop_all, drop_more}
 use Rattle.std.proofs.lemmas.Bool.{cases_Bool}
 use Rattle.plant.specs.Meaning.{PlantMeaning}
@@ -17,11 +17,17 @@ module _ (p : PlantMeaning) (words : List ℕ) where
   skip : (n : ℕ) → n ≤ length words → Agrees p words n → first_difference p words ≡ difference_from p n (drop n words)
   skip = passed Holds words (difference_from p) over
 
-  pub found : (r : Option ℕ) → Difference p words r → first_difference p words ≡ r
-  found (Some signal) (inside, differs, agrees) =
-      skip signal (omega arith) agrees ∙ ap (difference_from p signal) (drop_more words signal 0 inside) ∙ rw differs
-  found None agrees =
+  pub one_differs : (n : ℕ) → n < length words → Agrees p words n → holds p n (get_or words n 0) ≡ false → first_difference p words ≡ Some n
+  one_differs n inside agrees differs =
+      skip n (omega arith) agrees ∙ ap (difference_from p n) (drop_more words n 0 inside) ∙ rw differs
+
+  pub all_agree : Agrees p words (length words) → first_difference p words ≡ None
+  all_agree agrees =
       skip (length words) (omega arith) agrees ∙ ap (difference_from p (length words)) (drop_all (length words) words (omega arith))
+
+  found : (r : Option ℕ) → Difference p words r → first_difference p words ≡ r
+  found (Some signal) (inside, differs, agrees) = one_differs signal inside agrees differs
+  found None agrees = all_agree agrees
 
   lowest : (r : Option ℕ) → first_difference p words ≡ r → Difference p words r
   lowest r e =

@@ -1,21 +1,13 @@
 -- The first place of a list at which a test fails.
 use Rattle.std.proofs.Common.{◌≡◌, ℕ, zero, suc, ◌+◌, ◌<◌, ◌≤◌, ◌⊎◌, List, ◌∷◌, length, get_or, drop, refl, ap, ◌∙◌, subst, inl, inr, arith}
 use Rattle.std.proofs.lemmas.List.{drop_more}
-use Rattle.std.proofs.lemmas.Bool.{cases_eq}
+use borrow.Author.Count.{below_more}
 
 -- the words at the first n places are good there
 abbrev pub Until : (ℕ → ℕ → Type 0) → List ℕ → ℕ → Type 0
 Until Good words n = (k : ℕ) → k < n → Good k (get_or words k 0)
 
 module _ (Good : ℕ → ℕ → Type 0) (words : List ℕ) where
-  -- one place more
-  pub until_more : (n : ℕ) → Until Good words n → Good n (get_or words n 0) → Until Good words (n + 1)
-  until_more n before here k h =
-      elim (cases_eq n k) [
-        | inl e ↦ subst (λ (j : ℕ). Good j (get_or words j 0)) e here
-        | inr ne ↦ before k (omega arith)
-      ]
-
   -- a search that passes over what is good comes to the place n
   pub passed : {R : Type 0} (search-from : ℕ → List ℕ → R) → ((k w : ℕ) (rest : List ℕ) → Good k w → search-from k (w ∷ rest) ≡ search-from (k + 1) rest)
       → (n : ℕ) → n ≤ length words → Until Good words n → search-from 0 words ≡ search-from n (drop n words)
@@ -35,7 +27,7 @@ module _ (Good : ℕ → ℕ → Type 0) (words : List ℕ) where
       let next : n + 1 ≡ suc n = omega arith in
       elim (first_bad Bad test n) [
         | inl before ↦ elim (test n (get_or words n 0)) [
-          | inl good ↦ inl (subst (Until Good words) next (until_more n before good))
+          | inl good ↦ inl (subst (Until Good words) next (below_more (λ k. Good k (get_or words k 0)) n before good))
           | inr bad ↦ inr (n, omega arith, before, bad)
         ]
         | inr (k, lt, before, bad) ↦ inr (k, omega arith, before, bad)

@@ -1,4 +1,4 @@
 pub mod Comparing
 pub mod Firsts
-pub mod OneWord
 pub mod Writes
+pub mod Zeros

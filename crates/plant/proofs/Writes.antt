@@ -1,20 +1,13 @@
 -- Writing a list of words to the signals from 0 on.
-use Rattle.std.proofs.Common.{◌≡◌, ℕ, ◌+◌, ◌<◌, ◌≤◌, ◌⊎◌, List, [], ◌∷◌, ◌++◌, length, get_or, take, drop, set, Ok, Err, Result, sym, refl, ap, ◌∙◌, subst, inl, inr, append_assoc, arith, length-take-le}
-use lib.Seq.{set_at}
-use Rattle.std.proofs.lemmas.List.{take_all, take_more, drop_all, drop_more}
-use Rattle.std.proofs.lemmas.Bool.{cases_lt, lt-ltb, le-ltb, le-leb, lt-leb}
+use Rattle.std.proofs.Common.{◌≡◌, ℕ, ◌+◌, ◌<◌, ◌≤◌, ◌⊎◌, List, [], ◌∷◌, ◌++◌, length, get_or, take, drop, set, Ok, Err, Result, sym, refl, ap, ◌∙◌, inl, inr, append_assoc, arith, length-take-le}
+use Rattle.std.specs.Result.{result_and}
+use Rattle.std.proofs.lemmas.List.{set_at, take_more, drop_all, drop_more}
+use Rattle.std.proofs.lemmas.Bool.{cases_lt, lt-ltb, le-leb}
 use Rattle.faults.specs.declared.fault.PlantFault.{PlantFault}
 use Rattle.faults.specs.declared.fault.PlantFault.TheVariants.{NoSignal, AboveTop}
 use Rattle.plant.specs.Meaning.{PlantMeaning, Sound, writing, written}
 use Rattle.plant.proofs.Firsts.{Until, passed, first_bad}
-use Rattle.plant.specs.Setting.{then, setting_from, setting, all_set}
-
-abbrev IsOk : Result Unit PlantFault → Type 0
-IsOk (Ok done) = Unit
-IsOk (Err fault) = ⊥
-
-ok_not_err : (r : Result Unit PlantFault) (fault : PlantFault) → r ≡ Ok tt → r ≡ Err fault → ⊥
-ok_not_err r fault done refused = subst IsOk (sym done ∙ refused) tt
+use Rattle.plant.specs.Setting.{setting_from, setting}
 
 -- the word w may be written to the signal k; or it is refused
 abbrev Writable : PlantMeaning → ℕ → ℕ → Type 0
@@ -28,26 +21,20 @@ abbrev pub Accepted : PlantMeaning → List ℕ → ℕ → Type 0
 Accepted p words n = Until (Writable p) words n
 
 module _ (p : PlantMeaning) (k w : ℕ) where
-  pub accepted : k < p.count → w ≤ p.top → writing p k w ≡ Ok tt
-  accepted here low = rw (lt-ltb k p.count here, le-leb w p.top low)
-
-  pub no_signal : p.count ≤ k → writing p k w ≡ Err (NoSignal k)
-  no_signal off = rw (le-ltb k p.count off)
-
-  pub above_top : k < p.count → p.top < w → writing p k w ≡ Err (AboveTop k)
-  above_top here high = rw (lt-ltb k p.count here, lt-leb w p.top high)
+  accepted : Writable p k w → writing p k w ≡ Ok tt
+  accepted fine = grind arith
 
   writable_or_not : Writable p k w ⊎ Refused p k w
   writable_or_not =
       elim (cases_lt k p.count) [
-        | inl here ↦ elim (cases_lt p.top w) [ inl high ↦ inr (AboveTop k, above_top here high) | inr low ↦ inl (here, low) ]
-        | inr off ↦ inr (NoSignal k, no_signal off)
+        | inl here ↦ elim (cases_lt p.top w) [ inl high ↦ inr (AboveTop k, grind arith) | inr low ↦ inl (here, low) ]
+        | inr off ↦ inr (NoSignal k, grind arith)
       ]
 
 module _ (p : PlantMeaning) (words : List ℕ) where
   -- words that are accepted are passed over
   over : (k w : ℕ) (rest : List ℕ) → Writable p k w → setting_from p k (w ∷ rest) ≡ setting_from p (k + 1) rest
-  over k w rest fine = rw (accepted p k w fine.0 fine.1)
+  over k w rest fine = rw (accepted p k w fine)
 
   skip : (n : ℕ) → n ≤ length words → Accepted p words n → setting p words ≡ setting_from p n (drop n words)
   skip = passed (Writable p) words (setting_from p) over
@@ -60,13 +47,13 @@ module _ (p : PlantMeaning) (words : List ℕ) where
   one_refused n fault inside fine refused =
       skip n (omega arith) fine
       ∙ ap (setting_from p n) (drop_more words n 0 inside)
-      ∙ ap (λ (r : Result Unit PlantFault). then r (setting_from p (n + 1) (drop (n + 1) words))) refused
+      ∙ ap (λ (r : Result Unit PlantFault). result_and r (setting_from p (n + 1) (drop (n + 1) words))) refused
 
   pub accepted_all : setting p words ≡ Ok tt → Accepted p words (length words)
   accepted_all done =
       elim (first_bad (Writable p) words (Refused p) (writable_or_not p) (length words)) [
         | inl fine ↦ fine
-        | inr (k, inside, fine, (fault, refused)) ↦ absurd (ok_not_err (setting p words) fault done (one_refused k fault inside fine refused))
+        | inr (k, inside, fine, (fault, refused)) ↦ let no = one_refused k fault inside fine refused in cc
       ]
 
 -- the plant after the first n words were written
@@ -90,12 +77,6 @@ partly_next p words n sound fine inside =
     ∙ sym (ap (λ (l : List ℕ). l ++ drop (n + 1) p.words) (take_more words n 0 inside) ∙ append_assoc before (w ∷ []) (drop (n + 1) p.words)) in
     rw (lt-ltb n p.count here, le-leb w p.top low, more) refl
 
-pub partly_more : (p : PlantMeaning) (words : List ℕ) (n s : ℕ) (q : PlantMeaning) → Sound p → setting p words ≡ Ok tt → n < length words → s ≡ n → q ≡ partly p words n
-    → written q s (get_or words n 0) ≡ partly p words (n + 1)
-partly_more p words n s q sound done inside at is =
-    ap (λ (j : ℕ). written q j (get_or words n 0)) at
-    ∙ ap (λ (r : PlantMeaning). written r n (get_or words n 0)) is
-    ∙ partly_next p words n sound (accepted_all p words done) inside
-
-pub partly_all : (p : PlantMeaning) (words : List ℕ) → setting p words ≡ Ok tt → partly p words (length words) ≡ all_set p words
-partly_all p words done = rw (take_all (length words) words (omega arith), done) refl
+pub partly_more : (p : PlantMeaning) (words : List ℕ) (n : ℕ) → Sound p → setting p words ≡ Ok tt → n < length words
+    → written (partly p words n) n (get_or words n 0) ≡ partly p words (n + 1)
+partly_more p words n sound done inside = partly_next p words n sound (accepted_all p words done) inside

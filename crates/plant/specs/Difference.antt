@@ -5,7 +5,7 @@
 --   Agrees p l n           the first n signals hold the first n words of the list
 --   Difference p l r       r is the signal that does not hold its word while all below it do; or r is none, and all do
 --   DifferenceExactly      first_difference answers r exactly if r is the lowest difference
-use Rattle.std.specs.Prelude.{◌≡◌, ℕ, ◌+◌, ◌<◌, Bool, true, false, cond, ◌&&◌, List, [], ◌∷◌, length, Some, None, Option, ◌==◌, nat_lt, slice_index}
+use Rattle.std.specs.Prelude.{◌≡◌, ℕ, ◌+◌, ◌<◌, Bool, true, false, if◌then◌else◌, ◌&&◌, List, [], ◌∷◌, length, Some, None, Option, ◌==◌, nat_lt, slice_index}
 use Rattle.plant.specs.Meaning.{PlantMeaning}
 
 abbrev pub holds : PlantMeaning → ℕ → ℕ → Bool
@@ -13,7 +13,7 @@ holds p signal word = nat_lt signal p.count && slice_index p.words signal == wor
 
 abbrev pub difference_from : PlantMeaning → ℕ → List ℕ → Option ℕ
 difference_from p k [] = None
-difference_from p k (word ∷ words) = cond (holds p k word) (difference_from p (k + 1) words) (Some k)
+difference_from p k (word ∷ words) = if holds p k word then difference_from p (k + 1) words else Some k
 
 abbrev pub first_difference : PlantMeaning → List ℕ → Option ℕ
 first_difference p words = difference_from p 0 words

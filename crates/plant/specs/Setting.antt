@@ -1,35 +1,26 @@
 -- Setting the signals of a plant, from signal 0 on, to the words of a list.
---   then r next         r if it is a refusal, else next
 --   setting_from p k l  the first refusal among the writes of the list's words to the signals from k on, or that all are accepted
 --   setting p l         the same from signal 0 on
---   if_done r p q       q if r is a refusal, else p
 --   all_set p l         the plant afterwards: the words of the list and then those that stood there; as it was after a refusal
 --   SetsOne p s w r     what the plant is after a write of the word w to the signal s that was answered by r: if accepted, that
 --                       signal reads as w and every other as before; if refused, nothing is changed
 --   Kept p q            the plant q is sound, with the count and the top of p
 --   SetsOneWord         for every sound plant and every write: SetsOne and Kept
-use Rattle.std.specs.Prelude.{◌≡◌, ℕ, ◌+◌, ◌≢◌, List, [], ◌∷◌, ◌++◌, length, drop, Ok, Err, Result}
+use Rattle.std.specs.Prelude.{◌≡◌, ℕ, ◌+◌, ◌≢◌, List, [], ◌∷◌, ◌++◌, length, drop, Ok, Err, Result, is_ok, if◌then◌else◌}
+use Rattle.std.specs.Result.{result_and}
 use Rattle.faults.specs.declared.fault.PlantFault.{PlantFault}
 use Rattle.plant.specs.Meaning.{PlantMeaning, Sound, reading, writing, written}
 
-abbrev pub then : Result Unit PlantFault → Result Unit PlantFault → Result Unit PlantFault
-then (Ok done) next = next
-then (Err fault) next = Err fault
-
 abbrev pub setting_from : PlantMeaning → ℕ → List ℕ → Result Unit PlantFault
 setting_from p k [] = Ok tt
-setting_from p k (word ∷ words) = then (writing p k word) (setting_from p (k + 1) words)
+setting_from p k (word ∷ words) = result_and (writing p k word) (setting_from p (k + 1) words)
 
 abbrev pub setting : PlantMeaning → List ℕ → Result Unit PlantFault
 setting p words = setting_from p 0 words
 
-abbrev pub if_done : Result Unit PlantFault → PlantMeaning → PlantMeaning → PlantMeaning
-if_done (Ok done) p q = p
-if_done (Err fault) p q = q
-
 abbrev pub all_set : PlantMeaning → List ℕ → PlantMeaning
 all_set p words =
-    if_done (setting p words) (record { count = p.count; top = p.top; words = words ++ drop (length words) p.words }) p
+    if is_ok (setting p words) then record { count = p.count; top = p.top; words = words ++ drop (length words) p.words } else p
 
 abbrev pub SetsOne : PlantMeaning → ℕ → ℕ → Result Unit PlantFault → Type 0
 SetsOne p signal word (Ok done) =

@@ -1,15 +1,54 @@
 // A rack: up to 128 signals, each with a word of 16 bits.
-ghost use Rattle.std.specs.Prelude.{◌≡◌, ℕ, ◌<◌, ◌≤◌, length, slice_index};
+ghost use Rattle.std.specs.Prelude.{◌≡◌, min};
+ghost use Rattle.plant.specs.Meaning.{Sound, plant_of_words, zeros};
 
-pub mod calls;
-pub mod making;
+use crate::checks::{check_signal, check_word};
+use crate::plant::Plant;
+use arrayvec::ArrayVec;
+use faults::fault::PlantFault;
 
-// The first `count` words are those of the signals; the ghost fields keep them within the array and 16 bits.
+// The law of a plant rests on `sound`: the model of an ArrayVec bounds neither its length nor its numbers.
 #[derive(Drop)]
 pub struct Rack {
-    words: [u16; 128],
-    count: u16,
-    ghost room: { length words ≡ 128 },
-    ghost few: { count ≤ 128 },
-    ghost fit: { (k : ℕ) → k < 128 → slice_index words k < 65536 },
+    words: ArrayVec<u16, 128>,
+    ghost sound: { Sound (plant_of_words words.items) },
+}
+
+impl Rack {
+    // A rack of zeros. A number of signals above 128 counts as 128.
+    #[tactic(auto, using(crate::proofs::Zeros::front, crate::proofs::Zeros::all_zero))]
+    pub fn new(signals: u16) -> Rack
+        ensures { ⟦<Rack as Plant>⟧.meaning result ≡ zeros (min signals 128) 65535 }
+    {
+        let mut words = ArrayVec::from([0; 128]);
+        words.truncate(usize::from(signals));
+        Rack { words }
+    }
+}
+
+impl Plant for Rack {
+    ghost use Rattle.plant.specs.Plants.{rack_meaning};
+
+    ghost meaning = { rack_meaning };
+
+    ghost sound = { λ rack. rack.sound };
+
+    fn count(&self) -> u16 {
+        self.words.len() as u16
+    }
+
+    fn top(&self) -> u16 {
+        65535
+    }
+
+    fn read(&self, signal: u16) -> Result<u16, PlantFault> {
+        check_signal(self.count(), signal)?;
+        Ok(self.words[usize::from(signal)])
+    }
+
+    fn write(&mut self, signal: u16, word: u16) -> Result<(), PlantFault> {
+        check_word(self.count(), self.top(), signal, word)?;
+        self.words[usize::from(signal)] = word;
+        Ok(())
+    }
 }

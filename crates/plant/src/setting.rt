@@ -2,36 +2,30 @@
 ghost use Rattle.std.specs.Prelude.{◌≡◌, Ok};
 ghost use Rattle.plant.specs.Setting.{setting, all_set, SetsOneWord};
 
+use crate::checks::check_word;
 use crate::plant::Plant;
 use faults::fault::PlantFault;
 
 // The first refusal that the writes of the list to the signals from 0 on would meet.
+#[tactic(auto, using(crate::proofs::Writes::one_refused, crate::proofs::Writes::all_accepted))]
 fn accepts<P: Plant>(plant: &P, words: &[u16]) -> Result<(), PlantFault>
     ensures value { result ≡ setting (P.meaning plant.now) words.now }
     ensures law { SetsOneWord }
 {
-    let mut signal = 0;
-    for word in words {
-        if signal >= plant.count() {
-            return Err(PlantFault::NoSignal { signal });
-        }
-        if *word > plant.top() {
-            return Err(PlantFault::AboveTop { signal });
-        }
-        signal += 1;
+    for (signal, word) in words.iter().enumerate() {
+        check_word(plant.count(), plant.top(), signal as u16, *word)?;
     }
     Ok(())
 }
 
 // Writes a list of which every word is accepted.
+#[tactic(auto, using(crate::proofs::Writes::partly_more))]
 fn write_each<P: Plant>(plant: &mut P, words: &[u16])
     requires { setting (P.meaning plant.old) words.now ≡ Ok tt }
     ensures { P.meaning plant.new ≡ all_set (P.meaning plant.old) words.now }
 {
-    let mut signal = 0;
-    for word in words {
-        let _ = plant.write(signal, *word);
-        signal += 1;
+    for (signal, word) in words.iter().enumerate() {
+        let _ = plant.write(signal as u16, *word);
     }
 }
 

@@ -2,7 +2,7 @@
 ghost use Rattle.std.specs.Prelude.{◌≤◌, [], ◌∷◌};
 ghost use Rattle.std.proofs.Common.{rules};
 
-use crate::Plant;
+use crate::{Plant, check_signal, check_word};
 use faults::fault::PlantFault;
 
 // One signal, dark at 0 and lit at 1.
@@ -32,19 +32,12 @@ impl Plant for Lamp {
     }
 
     fn read(&self, signal: u16) -> Result<u16, PlantFault> {
-        if signal > 0 {
-            return Err(PlantFault::NoSignal { signal });
-        }
+        check_signal(self.count(), signal)?;
         Ok(self.light)
     }
 
     fn write(&mut self, signal: u16, word: u16) -> Result<(), PlantFault> {
-        if signal > 0 {
-            return Err(PlantFault::NoSignal { signal });
-        }
-        if word > 1 {
-            return Err(PlantFault::AboveTop { signal });
-        }
+        check_word(self.count(), self.top(), signal, word)?;
         self.light = word;
         Ok(())
     }
