@@ -1,8 +1,9 @@
 -- The contributors of a link: the numbers below 64 that pass a test, from one on, and that there is one.
-use Rattle.std.proofs.Common.{◌≡◌, ℕ, zero, suc, ◌+◌, ◌-◌, ◌/◌, ◌%◌, ◌^◌, ◌<◌, ◌≤◌, Bool, true, false, cond, eqb, List, [], ◌∷◌, ◌++◌, Some, codes, decimal, filter, sym, refl, ap, ◌∙◌, inl, inr, append_assoc, append-nil, div-one, arith}
+use Rattle.std.proofs.Common.{◌≡◌, ℕ, zero, suc, ◌+◌, ◌-◌, ◌/◌, ◌%◌, ◌^◌, ◌<◌, ◌≤◌, Bool, true, false, if◌then◌else◌, eqb, List, [], ◌∷◌, ◌++◌, Some, codes, decimal, filter, sym, refl, ap, ◌∙◌, inl, inr, div-one, arith}
 use native.Mathlib.Nat.{div-div-eq-div-mul, pow-succ'}
 use lib.Bits.{bit_and, and_mask}
 use Rattle.std.specs.List.{range_with_len}
+use Rattle.std.proofs.lemmas.Grind.{common_steps}
 use Rattle.std.proofs.lemmas.Bool.{cases_eq, false≢true, and_from, lt-ltb}
 use Rattle.sheet.specs.declared.parts.Link.{Link}
 use Rattle.sheet.specs.Model.{link_of}
@@ -17,32 +18,23 @@ pub rising_all : (p : ℕ → Bool) → rising_from p 0 ≡ rising p
 unfolding rising_from rising
 rising_all p = refl
 
-rising_more : (p : ℕ → Bool) (k : ℕ) → k < 64 → rising_from p k ≡ cond (p k) (k ∷ rising_from p (k + 1)) (rising_from p (k + 1))
+cond_spaced : (b : Bool) (k : ℕ) (rest : List ℕ) → spaced (if b then k ∷ rest else rest) ≡ if b then codes " " ++ (decimal k ++ spaced rest) else spaced rest
+cond_spaced true k rest = refl
+cond_spaced false k rest = refl
+
+-- the text of those from one number on, and past the last
+pub spaced_next : (p : ℕ → Bool) (k : ℕ) → k < 64
+    → spaced (rising_from p k) ≡ if p k then codes " " ++ (decimal k ++ spaced (rising_from p (k + 1))) else spaced (rising_from p (k + 1))
 unfolding rising_from
-rising_more p k h = let e : 64 - k ≡ suc (64 - (k + 1)) = omega arith in ap (λ (n : ℕ). filter p (range_with_len k n)) e
+spaced_next p k h =
+    let e : 64 - k ≡ suc (64 - (k + 1)) = omega arith in
+    ap (λ (n : ℕ). spaced (filter p (range_with_len k n))) e ∙ cond_spaced (p k) k (rising_from p (k + 1))
 
-rising_none : (p : ℕ → Bool) (k : ℕ) → 64 ≤ k → rising_from p k ≡ []
+pub spaced_end : (p : ℕ → Bool) (k : ℕ) → 64 ≤ k → spaced (rising_from p k) ≡ []
 unfolding rising_from
-rising_none p k h = let e : 64 - k ≡ 0 = omega arith in ap (λ (n : ℕ). filter p (range_with_len k n)) e
+spaced_end p k h = let e : 64 - k ≡ 0 = omega arith in ap (λ (n : ℕ). spaced (filter p (range_with_len k n))) e
 
--- the text of those that are left, past one that passes, past one that does not, and at the end
-module _ (p : ℕ → Bool) (k : ℕ) (before : List ℕ) where
-  pub spaced_more : (after : List ℕ) → k < 64 → p k ≡ true → after ≡ before ++ (codes " " ++ decimal k)
-      → after ++ spaced (rising_from p (k + 1)) ≡ before ++ spaced (rising_from p k)
-  spaced_more after h e more =
-      let rest = rising_from p (k + 1) in
-      let whole : rising_from p k ≡ k ∷ rest = rising_more p k h ∙ ap (λ (b : Bool). cond b (k ∷ rest) rest) e in
-      ap (λ (t : List ℕ). t ++ spaced rest) more
-      ∙ append_assoc before (codes " " ++ decimal k) (spaced rest)
-      ∙ sym (ap (λ (ks : List ℕ). before ++ spaced ks) whole)
-
-  pub spaced_over : k < 64 → p k ≡ false → before ++ spaced (rising_from p (k + 1)) ≡ before ++ spaced (rising_from p k)
-  spaced_over h e =
-      let rest = rising_from p (k + 1) in
-      sym (ap (λ (ks : List ℕ). before ++ spaced ks) (rising_more p k h ∙ ap (λ (b : Bool). cond b (k ∷ rest) rest) e))
-
-  pub spaced_all : 64 ≤ k → before ≡ before ++ spaced (rising_from p k)
-  spaced_all h = sym (ap (λ (ks : List ℕ). before ++ spaced ks) (rising_none p k h) ∙ append-nil before)
+pub ruleset spaced_members = (common_steps, rising_all, spaced_next, spaced_end)
 
 bit_next : (m k : ℕ) → bit (m / 2) k ≡ bit m (suc k)
 bit_next m k = ap (λ (n : ℕ). eqb (bit_and n 1) 1) (div-div-eq-div-mul m 2 (2 ^ k) ∙ ap (λ (n : ℕ). m / n) (sym (pow-succ' 2 k)))

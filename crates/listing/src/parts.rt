@@ -30,6 +30,7 @@ impl Line for Effect {
     }
 }
 
+#[tactic(auto, using(crate::proofs::Members::spaced_members))]
 fn push_members(text: &mut String, set: IndexSet) -> Result<(), AllocError>
     ensures { OnOk result (string_bytes text.new ≡ string_bytes text.old ++ spaced (members set)) }
 {
