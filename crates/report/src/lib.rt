@@ -15,6 +15,7 @@ mod line;
 mod tests;
 mod wording;
 
+// Two functions and no trait over both, which would take more lines than these two.
 pub fn report_verdict(verdict: Verdict, buffer: &mut [u8]) -> Result<usize, ReportFault>
     ensures value { result ≡ answer (verdict_line verdict) buffer.old }
     ensures after { buffer.new ≡ filled (verdict_line verdict) buffer.old }
