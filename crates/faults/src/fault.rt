@@ -4,29 +4,29 @@ ghost use Rattle.faults.specs.declared.fault.Fault.TheVariants.{Reader, Run, Pla
 
 use crate::verdict::Flaw;
 
-// Which rule a record of a sheet file breaks.
-#[derive(Clone, Copy)]
+// Which rule a record of a sheet file breaks. Each has its number.
+#[derive(Clone, Copy, PartialEq, Eq, Debug)]
 pub enum Cause {
-    CutShort,
-    Mark,
-    OffLimits,
-    NoSuch,
-    WrongStep,
-    Repeated,
-    LinkedTwice,
-    TooMany,
-    AfterEnd,
+    CutShort = 1,
+    Mark = 2,
+    OffLimits = 3,
+    NoSuch = 4,
+    WrongStep = 5,
+    Repeated = 6,
+    LinkedTwice = 7,
+    TooMany = 8,
+    AfterEnd = 9,
 }
 
 // A fault of a sheet file. Its place is the offset of the record's mark.
-#[derive(Clone, Copy)]
+#[derive(Clone, Copy, PartialEq, Eq, Debug)]
 pub struct ReaderFault {
     pub cause: Cause,
     pub place: u16,
 }
 
-// Why a call on a run is turned down.
-#[derive(Clone, Copy)]
+// Why a call on a run is turned down. Its number is no discriminant, since variants with fields have none.
+#[derive(Clone, Copy, PartialEq, Eq, Debug)]
 pub enum RunFault {
     DoesNotPass { flaw: Flaw },
     TooFewSignals { count: u16 },
@@ -43,7 +43,7 @@ pub enum RunFault {
 }
 
 // Why a plant turns a read or a write down.
-#[derive(Clone, Copy)]
+#[derive(Clone, Copy, PartialEq, Eq, Debug)]
 pub enum PlantFault {
     NoSignal { signal: u16 },
     AboveTop { signal: u16 },
@@ -55,7 +55,7 @@ pub enum ReportFault {
     BufferTooShort { length: u16 },
 }
 
-#[derive(Clone, Copy)]
+#[derive(Clone, Copy, PartialEq, Eq, Debug)]
 pub enum Fault {
     Reader(ReaderFault),
     Run(RunFault),
@@ -71,6 +71,7 @@ pub enum Layer {
     Report,
 }
 
+// By hand, since a derived `From` says nothing of the fault that `?` makes, and clauses name it.
 impl From<ReaderFault> for Fault {
     ghost from_gives = { λ e r. r ≡ Reader e };
 

@@ -9,17 +9,7 @@ impl Cause {
     fn number(self) -> u8
         ensures { result ≡ cause_number self }
     {
-        match self {
-            Cause::CutShort => 1,
-            Cause::Mark => 2,
-            Cause::OffLimits => 3,
-            Cause::NoSuch => 4,
-            Cause::WrongStep => 5,
-            Cause::Repeated => 6,
-            Cause::LinkedTwice => 7,
-            Cause::TooMany => 8,
-            Cause::AfterEnd => 9,
-        }
+        self as u8
     }
 }
 
@@ -30,9 +20,8 @@ impl Flaw {
     {
         match self {
             Flaw::Circle { step } => u16::from(step),
-            Flaw::OpenNeed { need } => u16::from(need),
-            Flaw::Unsupported { need, step: _ } => u16::from(need),
-            Flaw::Threat { need, step: _ } => u16::from(need),
+            Flaw::OpenNeed { need } | Flaw::Unsupported { need, .. } | Flaw::Threat { need, .. } =>
+                u16::from(need),
         }
     }
 }
@@ -42,18 +31,18 @@ impl RunFault {
         ensures { result ≡ run_number self }
     {
         match self {
-            RunFault::DoesNotPass { flaw: _ } => 20,
-            RunFault::TooFewSignals { count: _ } => 21,
-            RunFault::EffectAboveTop { effect: _ } => 22,
-            RunFault::NotAtStart { signal: _ } => 23,
-            RunFault::StepsInHand { step: _ } => 24,
+            RunFault::DoesNotPass { .. } => 20,
+            RunFault::TooFewSignals { .. } => 21,
+            RunFault::EffectAboveTop { .. } => 22,
+            RunFault::NotAtStart { .. } => 23,
+            RunFault::StepsInHand { .. } => 24,
             RunFault::NeverOpened => 30,
-            RunFault::NoSuchStep { step: _ } => 31,
-            RunFault::StepDone { step: _ } => 32,
-            RunFault::StepInHand { step: _ } => 33,
-            RunFault::EarlierNotDone { step: _ } => 34,
-            RunFault::OtherRun { run: _ } => 35,
-            RunFault::NotInHand { step: _ } => 36,
+            RunFault::NoSuchStep { .. } => 31,
+            RunFault::StepDone { .. } => 32,
+            RunFault::StepInHand { .. } => 33,
+            RunFault::EarlierNotDone { .. } => 34,
+            RunFault::OtherRun { .. } => 35,
+            RunFault::NotInHand { .. } => 36,
         }
     }
 
@@ -65,14 +54,14 @@ impl RunFault {
             RunFault::TooFewSignals { count } => count,
             RunFault::EffectAboveTop { effect } => effect,
             RunFault::NotAtStart { signal } => signal,
-            RunFault::StepsInHand { step } => step,
             RunFault::NeverOpened => 0,
-            RunFault::NoSuchStep { step } => step,
-            RunFault::StepDone { step } => step,
-            RunFault::StepInHand { step } => step,
-            RunFault::EarlierNotDone { step } => step,
+            RunFault::StepsInHand { step }
+            | RunFault::NoSuchStep { step }
+            | RunFault::StepDone { step }
+            | RunFault::StepInHand { step }
+            | RunFault::EarlierNotDone { step }
+            | RunFault::NotInHand { step } => step,
             RunFault::OtherRun { run } => run,
-            RunFault::NotInHand { step } => step,
         }
     }
 }
@@ -82,8 +71,8 @@ impl PlantFault {
         ensures { result ≡ plant_number self }
     {
         match self {
-            PlantFault::NoSignal { signal: _ } => 40,
-            PlantFault::AboveTop { signal: _ } => 41,
+            PlantFault::NoSignal { .. } => 40,
+            PlantFault::AboveTop { .. } => 41,
         }
     }
 
@@ -91,8 +80,7 @@ impl PlantFault {
         ensures { result ≡ plant_place self }
     {
         match self {
-            PlantFault::NoSignal { signal } => signal,
-            PlantFault::AboveTop { signal } => signal,
+            PlantFault::NoSignal { signal } | PlantFault::AboveTop { signal } => signal,
         }
     }
 }
@@ -105,7 +93,7 @@ impl Fault {
             Fault::Reader(fault) => fault.cause.number(),
             Fault::Run(fault) => fault.number(),
             Fault::Plant(fault) => fault.number(),
-            Fault::Report(ReportFault::BufferTooShort { length: _ }) => 50,
+            Fault::Report(ReportFault::BufferTooShort { .. }) => 50,
         }
     }
 

@@ -205,10 +205,10 @@ const FAULTS: [(Fault, u8, u16, Layer); 28] = [
 
 #[test]
 fn faults(rt: HostRuntime) {
-    for row in FAULTS.iter() {
+    for (fault, number, place, layer) in FAULTS {
         assert_eq!(rt;
-            (row.0.number(), row.0.place(), row.0.layer()),
-            (row.1, row.2, row.3)
+            (fault.number(), fault.place(), fault.layer()),
+            (number, place, layer)
         );
     }
 }

@@ -1,7 +1,7 @@
 // What the judge says of a sheet.
 
 // Why a sheet does not pass. A step or a need goes by its number.
-#[derive(Clone, Copy)]
+#[derive(Clone, Copy, PartialEq, Eq, Debug)]
 pub enum Flaw {
     // a step is before itself
     Circle { step: u8 },
@@ -13,8 +13,5 @@ pub enum Flaw {
     Threat { need: u8, step: u8 },
 }
 
-#[derive(Clone, Copy)]
-pub enum Verdict {
-    Pass,
-    Flawed(Flaw),
-}
+// A sheet passes, or has a flaw.
+pub type Verdict = Result<(), Flaw>;

@@ -14,7 +14,7 @@
 --   plain b           the byte b of a name stands for itself: printable ASCII, and no backslash
 --   shown_byte b      the byte b of a name as it is shown: itself, or its two digits behind a backslash and an x
 --   name_line n p bs  the line of step n, whose name has the bytes bs and begins at place p of the file
-use Rattle.std.specs.Prelude.{ℕ, ◌+◌, ◌/◌, ◌%◌, Bool, cond, not, ◌&&◌, List, [], ◌∷◌, ◌++◌, length, codes, decimal, ◌==◌, nat_le, nat_lt}
+use Rattle.std.specs.Prelude.{ℕ, ◌+◌, ◌/◌, ◌%◌, Bool, if◌then◌else◌, not, ◌&&◌, List, [], ◌∷◌, ◌++◌, length, codes, decimal, ◌==◌, nat_le, nat_lt}
 use Prim.Native.String.{String}
 use Rattle.std.specs.List.{flat_map}
 use Rattle.sheet.specs.declared.parts.Effect.{Effect}
@@ -65,13 +65,13 @@ sheet_lines s =
     ++ numbered pair_line 0 s.pairs
 
 abbrev pub hex_digit : ℕ → ℕ
-hex_digit d = cond (nat_lt d 10) (48 + d) (87 + d)
+hex_digit d = if nat_lt d 10 then 48 + d else 87 + d
 
 abbrev pub plain : ℕ → Bool
 plain b = nat_le 32 b && (nat_le b 126 && not (b == 92))
 
 abbrev pub shown_byte : ℕ → List ℕ
-shown_byte b = cond (plain b) (b ∷ []) (codes "\\x" ++ hex_digit (b / 16) ∷ hex_digit (b % 16) ∷ [])
+shown_byte b = if plain b then b ∷ [] else codes "\\x" ++ hex_digit (b / 16) ∷ hex_digit (b % 16) ∷ []
 
 abbrev pub name_line : ℕ → ℕ → List ℕ → List ℕ
 name_line n p bs = fields (("NAME step ", n) ∷ (" at ", p) ∷ []) (codes " " ++ (flat_map shown_byte bs ++ newline))

@@ -3,7 +3,7 @@
 --   names_from f k n  the names of the n steps from k on
 --   listed f s        the lines of the sheet s, and then those of the names in the file f
 --   ListedAs f r      the answer r for the file f: the text of the sheet that it says, its fault, or want of memory
-use Rattle.std.specs.Prelude.{◌≡◌, ℕ, zero, suc, ◌+◌, List, [], ◌++◌, Some, None, Ok, Err, string_bytes, Option, Result, String}
+use Rattle.std.specs.Prelude.{◌≡◌, ℕ, zero, suc, ◌+◌, List, [], ◌++◌, Some, Ok, Err, string_bytes, Option, Result, String}
 use Rattle.std.specs.declared.alloc.Global.{Global}
 use Rattle.faults.specs.declared.fault.Fault.{Fault}
 use Rattle.sheet.specs.Model.{Sheet}
@@ -14,8 +14,7 @@ use Rattle.listing.specs.Listing.{sheet_lines, name_line}
 
 abbrev pub name_text : ℕ → Result (Option (ℕ × List ℕ)) Fault → List ℕ
 name_text w (Ok (Some x)) = name_line w x.0 x.1
-name_text w (Ok None) = []
-name_text w (Err f) = []
+name_text w _ = []
 
 abbrev pub names_from : List ℕ → ℕ → ℕ → List ℕ
 names_from file k zero = []

@@ -1,18 +1,11 @@
-// Text, and numbered lines, appended to a `String`.
-ghost use Rattle.std.specs.Prelude.{◌≡◌, ℕ, List, ◌++◌, IfSome, string_bytes, OnOk};
+// Numbered lines, appended to a `String`.
+ghost use Rattle.std.specs.Prelude.{◌≡◌, ℕ, List, ◌++◌, string_bytes, OnOk};
 ghost use Rattle.listing.specs.Listing.{numbered};
 
 use std::alloc::AllocError;
-use std::fmt::Display;
-
-// A `String` refuses text for want of memory alone, so any error of the format says that.
-pub fn append<D: Display + Drop>(text: &mut String, value: D) -> Result<(), AllocError>
-    ensures { OnOk result (IfSome (D.output value) (λ bs. string_bytes text.new ≡ string_bytes text.old ++ bs)) }
-{
-    text.write(value).or(Err(AllocError))
-}
 
 // What has a line of its own, with its number in its list.
+// No `Display` of a pair: its output is an `Option`, so `push_lines` would have to require that there is one.
 pub trait Line {
     ghost line: { ℕ → Self → List ℕ };
 

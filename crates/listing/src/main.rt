@@ -23,7 +23,7 @@ const MOST: u64 = 32768;
 fn refuse(rt: &HostRuntime, fault: Fault) -> io::Result<()> {
     let mut line = [0u8; 40];
     match report_fault(fault, &mut line) {
-        Ok(length) => rt.stdout().write_all(&line[0..length]),
+        Ok(length) => rt.stdout().write_all(&line[..length]),
         Err(_) => Ok(()),
     }
 }
@@ -31,7 +31,7 @@ fn refuse(rt: &HostRuntime, fault: Fault) -> io::Result<()> {
 fn main(rt: HostRuntime) -> io::Result<()> {
     let mut file = Vec::new(rt.alloc());
     rt.stdin().take(MOST).read_to_end(&mut file)?;
-    match list(rt.alloc(), file.as_slice()) {
+    match list(rt.alloc(), &file) {
         Ok(text) => print!(rt; "{text}"),
         Err(ReadError::Fault(fault)) => refuse(&rt, Fault::Reader(fault)),
         Err(ReadError::Memory) => Err(AllocError.into()),

@@ -4,7 +4,7 @@ ghost use Rattle.sheet.specs.Model.{link_of, need_of};
 ghost use Rattle.sets.specs.Sets.{members};
 ghost use Rattle.listing.specs.Listing.{signal_line, effect_line, need_line, pair_line, spaced, link_text};
 
-use crate::lines::{Line, append};
+use crate::lines::Line;
 use sets::index_set::IndexSet;
 use sheet::parts::{Effect, Link, Need, Pair};
 use std::alloc::AllocError;
@@ -14,7 +14,7 @@ impl Line for u16 {
     ghost line = { signal_line };
 
     fn push_line(&self, text: &mut String, number: usize) -> Result<(), AllocError> {
-        append(text, format_args!("SIGNAL {number} word {self}\n"))
+        writeln!(text, "SIGNAL {number} word {self}")
     }
 }
 
@@ -23,30 +23,32 @@ impl Line for Effect {
 
     fn push_line(&self, text: &mut String, number: usize) -> Result<(), AllocError> {
         let Effect { step, signal, word } = *self;
-        append(
+        writeln!(
             text,
-            format_args!("EFFECT {number} step {step} signal {signal} word {word}\n"),
+            "EFFECT {number} step {step} signal {signal} word {word}"
         )
     }
 }
 
+#[tactic(auto, using(crate::proofs::Members::spaced_members))]
 fn push_members(text: &mut String, set: IndexSet) -> Result<(), AllocError>
     ensures { OnOk result (string_bytes text.new ≡ string_bytes text.old ++ spaced (members set)) }
 {
     for k in 0..64 {
         if set.contains(k) {
-            append(text, format_args!(" {k}"))?;
+            write!(text, " {k}")?;
         }
     }
     Ok(())
 }
 
+#[tactic(auto, using(crate::proofs::Members::text_link))]
 fn push_link(text: &mut String, link: Option<Link>) -> Result<(), AllocError>
     ensures { OnOk result (string_bytes text.new ≡ string_bytes text.old ++ link_text (link_of link)) }
 {
     match link {
         Some(link) => push_members(text, link.contributors()),
-        None => append(text, " none"),
+        None => text.push_str(" none"),
     }
 }
 
@@ -61,13 +63,12 @@ impl Line for Need {
             b,
             link,
         } = *self;
-        append(
+        write!(
             text,
-            format_args!("NEED {number} step {step} signal {signal} a {a} b {b} link"),
+            "NEED {number} step {step} signal {signal} a {a} b {b} link"
         )?;
         push_link(text, link)?;
-        append(text, "\n")?;
-        Ok(())
+        text.push_str("\n")
     }
 }
 
@@ -76,9 +77,6 @@ impl Line for Pair {
 
     fn push_line(&self, text: &mut String, number: usize) -> Result<(), AllocError> {
         let Pair { earlier, later } = *self;
-        append(
-            text,
-            format_args!("PAIR {number} step {earlier} ahead of step {later}\n"),
-        )
+        writeln!(text, "PAIR {number} step {earlier} ahead of step {later}")
     }
 }

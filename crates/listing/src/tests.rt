@@ -23,10 +23,10 @@ const LISTED: [(&[u8], &str); 3] = [
 
 #[test]
 fn listed(rt: HostRuntime) -> Result<(), Fail> {
-    for row in LISTED.iter() {
-        match list(rt.alloc(), row.0) {
-            Ok(text) => assert_eq!(rt; text.as_str(), row.1),
-            Err(_) => return Err(Fail::new(row.1)),
+    for (file, lines) in LISTED {
+        match list(rt.alloc(), file) {
+            Ok(text) => assert_eq!(rt; text.as_str(), lines),
+            Err(_) => return Err(Fail::new(lines)),
         }
     }
     Ok(())
@@ -59,10 +59,10 @@ const NAMES: [(&[u8], &str); 6] = [
 
 #[test]
 fn names(rt: HostRuntime) -> Result<(), Fail> {
-    for row in NAMES.iter() {
+    for (name, line) in NAMES {
         let mut text = String::new(rt.alloc());
-        push_name(&mut text, 63, 65535, row.0)?;
-        assert_eq!(rt; text.as_str(), row.1);
+        push_name(&mut text, 63, 65535, name)?;
+        assert_eq!(rt; text.as_str(), line);
     }
     Ok(())
 }

@@ -14,8 +14,7 @@ fn push_name_of(text: &mut String, file: &[u8], step: u8) -> Result<(), AllocErr
 {
     match name(file, u16::from(step)) {
         Ok(Some(part)) => push_name(text, step, part.place, part.bytes),
-        Ok(None) => Ok(()),
-        Err(_) => Ok(()),
+        Ok(None) | Err(_) => Ok(()),
     }
 }
 

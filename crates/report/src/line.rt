@@ -1,83 +1,34 @@
 // A line, put together piece by piece and then into a buffer.
-ghost use Rattle.std.specs.Prelude.{◌≡◌, ◌+◌, ◌≤◌, [], ◌++◌, length, take, decimal};
-ghost use Rattle.report.specs.Lines.{newline, answer, filled};
+ghost use Rattle.std.specs.Prelude.{◌≡◌, ◌+◌, ◌≤◌, ◌++◌, length};
+ghost use Rattle.arrayvec.specs.ArrayString.{array_string_len};
+ghost use Rattle.report.specs.Lines.{answer, filled};
 
+use arrayvec::ArrayString;
 use faults::fault::ReportFault;
+use itoa::{Buffer, Integer};
 
-// Enough for the longest line, which takes 37 bytes with five digits in each of its numbers.
-const ROOM: usize = 40;
+// The longest line takes 33 bytes.
+pub type Line = ArrayString<40>;
 
-// What is written so far is the first `len` of the bytes.
-#[derive(Clone, Copy)]
-pub struct Line {
-    bytes: [u8; ROOM],
-    len: usize,
-    ghost within: { len ≤ 40 },
+// A text and the number after it. `write!` says nothing of when it succeeds, and here it always fits.
+pub fn push_numbered<I: Integer>(line: &mut Line, text: &str, n: I)
+    requires { array_string_len line.old + length text.now + I.MAX_STR_LEN ≤ 40 }
+    ensures bytes { line.new.bytes ≡ line.old.bytes ++ text.now ++ I.text n }
+    ensures len { array_string_len line.new ≤ array_string_len line.old + length text.now + I.MAX_STR_LEN }
+{
+    line.push_str(text);
+    line.push_str(Buffer::new().format(n));
 }
 
-impl Line {
-    pub fn new() -> Line
-        ensures bytes { take result.len result.bytes ≡ [] }
-        ensures len { result.len ≡ 0 }
-    {
-        Line {
-            bytes: [0; ROOM],
-            len: 0,
-        }
+// A buffer that is too short is left as it was.
+pub fn put(line: &Line, buffer: &mut [u8]) -> Result<usize, ReportFault>
+    ensures value { result ≡ answer line.now.bytes buffer.old }
+    ensures after { buffer.new ≡ filled line.now.bytes buffer.old }
+{
+    let len = line.len();
+    if buffer.len() < len {
+        return Err(ReportFault::BufferTooShort { length: len as u16 });
     }
-
-    pub fn text(self, text: &[u8]) -> Line
-        requires { self.len + length text.now ≤ 40 }
-        ensures bytes { take result.len result.bytes ≡ take self.len self.bytes ++ text.now }
-        ensures len { result.len ≡ self.len + length text.now }
-    {
-        let mut bytes = self.bytes;
-        let start = self.len;
-        let len = start + text.len();
-        bytes[start..len].copy_from_slice(text);
-        Line { bytes, len }
-    }
-
-    // A text and the number after it.
-    pub fn numbered(self, text: &[u8], n: u16) -> Line
-        requires { self.len + length text.now + 5 ≤ 40 }
-        ensures bytes { take result.len result.bytes ≡ take self.len self.bytes ++ text.now ++ decimal n }
-        ensures len { result.len ≤ self.len + length text.now + 5 }
-    {
-        self.text(text).number(n)
-    }
-
-    fn number(self, n: u16) -> Line
-        requires { self.len + 5 ≤ 40 }
-        ensures bytes { take result.len result.bytes ≡ take self.len self.bytes ++ decimal n }
-        ensures len { result.len ≡ self.len + length (decimal n) }
-        ensures short { result.len ≤ self.len + 5 }
-    {
-        let digit = b'0' + (n % 10) as u8;
-        if n < 10 {
-            self.text(&[digit])
-        } else {
-            self.number(n / 10).text(&[digit])
-        }
-    }
-
-    pub fn end(self) -> Line
-        requires { self.len + 1 ≤ 40 }
-        ensures { take result.len result.bytes ≡ take self.len self.bytes ++ newline }
-    {
-        self.text(b"\n")
-    }
-
-    // A buffer that is too short is left as it was.
-    pub fn put(self, buffer: &mut [u8]) -> Result<usize, ReportFault>
-        ensures value { result ≡ answer (take self.len self.bytes) buffer.old }
-        ensures after { buffer.new ≡ filled (take self.len self.bytes) buffer.old }
-    {
-        let len = self.len;
-        if buffer.len() < len {
-            return Err(ReportFault::BufferTooShort { length: len as u16 });
-        }
-        buffer[0..len].copy_from_slice(&self.bytes[0..len]);
-        Ok(len)
-    }
+    buffer[..len].copy_from_slice(line.as_bytes());
+    Ok(len)
 }

@@ -54,7 +54,7 @@ fn flaws(rt: HostRuntime) -> Result<(), Fail> {
     ];
     for (flaw, line) in table {
         let mut buffer = [b'.'; 36];
-        let written = report_verdict(Verdict::Flawed(flaw), &mut buffer);
+        let written = report_verdict(Err(flaw), &mut buffer);
         check_line(&rt, written, &buffer, line)?;
         let mut buffer = [b'.'; 36];
         let written = report_fault(Fault::Run(RunFault::DoesNotPass { flaw }), &mut buffer);
@@ -92,7 +92,7 @@ fn other_faults(rt: HostRuntime) -> Result<(), Fail> {
 #[test]
 fn exactly_long_enough(rt: HostRuntime) {
     let mut buffer = [b'.'; 5];
-    assert_eq!(rt; report_verdict(Verdict::Pass, &mut buffer), Ok(5));
+    assert_eq!(rt; report_verdict(Ok(()), &mut buffer), Ok(5));
     assert_eq!(rt; buffer, *b"PASS\n");
     let mut buffer = [b'.'; 16];
     assert_eq!(rt; report_fault(NO_SUCH, &mut buffer), Ok(16));
@@ -103,7 +103,7 @@ fn exactly_long_enough(rt: HostRuntime) {
 fn one_byte_too_short(rt: HostRuntime) {
     let mut buffer = [b'.'; 4];
     let short = Err(ReportFault::BufferTooShort { length: 5 });
-    assert_eq!(rt; report_verdict(Verdict::Pass, &mut buffer), short);
+    assert_eq!(rt; report_verdict(Ok(()), &mut buffer), short);
     assert_eq!(rt; buffer, [b'.'; 4]);
     let mut buffer = [b'.'; 15];
     let short = Err(ReportFault::BufferTooShort { length: 16 });
@@ -114,5 +114,5 @@ fn one_byte_too_short(rt: HostRuntime) {
 #[test]
 fn no_room_at_all(rt: HostRuntime) {
     let short = Err(ReportFault::BufferTooShort { length: 5 });
-    assert_eq!(rt; report_verdict(Verdict::Pass, &mut []), short);
+    assert_eq!(rt; report_verdict(Ok(()), &mut []), short);
 }

@@ -1,52 +1,56 @@
 // The words of each line.
-ghost use Rattle.std.specs.Prelude.{◌≡◌, take};
+ghost use Rattle.std.specs.Prelude.{◌≡◌};
 ghost use Rattle.report.specs.Lines.{flaw_line, verdict_line, refused_line, fault_line};
 
-use crate::line::Line;
+use crate::line::{Line, push_numbered};
 use faults::fault::{Fault, RunFault};
 use faults::verdict::{Flaw, Verdict};
 
 fn flaw_line(flaw: Flaw) -> Line
-    ensures { take result.len result.bytes ≡ flaw_line flaw }
+    ensures { result.bytes ≡ flaw_line flaw }
 {
+    let mut line = Line::new();
     match flaw {
-        Flaw::Circle { step } => Line::new().numbered(b"CIRCLE step ", u16::from(step)).end(),
-        Flaw::OpenNeed { need } => Line::new().numbered(b"OPEN need ", u16::from(need)).end(),
+        Flaw::Circle { step } => push_numbered(&mut line, "CIRCLE step ", step),
+        Flaw::OpenNeed { need } => push_numbered(&mut line, "OPEN need ", need),
         Flaw::Unsupported { need, step } => {
-            Line::new()
-                .numbered(b"UNSUPPORTED need ", u16::from(need))
-                .numbered(b" by step ", u16::from(step))
-                .end()
+            push_numbered(&mut line, "UNSUPPORTED need ", need);
+            push_numbered(&mut line, " by step ", step);
         }
         Flaw::Threat { need, step } => {
-            Line::new()
-                .numbered(b"THREAT need ", u16::from(need))
-                .numbered(b" by step ", u16::from(step))
-                .end()
+            push_numbered(&mut line, "THREAT need ", need);
+            push_numbered(&mut line, " by step ", step);
         }
     }
+    line.push_str("\n");
+    line
 }
 
 pub fn verdict_line(verdict: Verdict) -> Line
-    ensures { take result.len result.bytes ≡ verdict_line verdict }
+    ensures { result.bytes ≡ verdict_line verdict }
 {
     match verdict {
-        Verdict::Pass => Line::new().text(b"PASS").end(),
-        Verdict::Flawed(flaw) => flaw_line(flaw),
+        Ok(()) => {
+            let mut line = Line::new();
+            line.push_str("PASS\n");
+            line
+        }
+        Err(flaw) => flaw_line(flaw),
     }
 }
 
 fn refused_line(fault: Fault) -> Line
-    ensures { take result.len result.bytes ≡ refused_line fault }
+    ensures { result.bytes ≡ refused_line fault }
 {
-    Line::new()
-        .numbered(b"REFUSED ", u16::from(fault.number()))
-        .numbered(b" at ", fault.place())
-        .end()
+    let mut line = Line::new();
+    push_numbered(&mut line, "REFUSED ", fault.number());
+    push_numbered(&mut line, " at ", fault.place());
+    line.push_str("\n");
+    line
 }
 
 pub fn fault_line(fault: Fault) -> Line
-    ensures { take result.len result.bytes ≡ fault_line fault }
+    ensures { result.bytes ≡ fault_line fault }
 {
     match fault {
         Fault::Run(RunFault::DoesNotPass { flaw }) => flaw_line(flaw),
