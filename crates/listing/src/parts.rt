@@ -1,7 +1,6 @@
 // The line of each part of a sheet.
 ghost use Rattle.std.specs.Prelude.{◌≡◌, ◌++◌, string_bytes, OnOk};
 ghost use Rattle.sheet.specs.Model.{link_of, need_of};
-ghost use Rattle.sets.specs.Sets.{members};
 ghost use Rattle.listing.specs.Listing.{signal_line, effect_line, need_line, pair_line, spaced, link_text};
 
 use crate::lines::Line;
@@ -30,19 +29,15 @@ impl Line for Effect {
     }
 }
 
-#[tactic(auto, using(crate::proofs::Members::spaced_members))]
 fn push_members(text: &mut String, set: IndexSet) -> Result<(), AllocError>
-    ensures { OnOk result (string_bytes text.new ≡ string_bytes text.old ++ spaced (members set)) }
+    ensures { OnOk result (string_bytes text.new ≡ string_bytes text.old ++ spaced set) }
 {
-    for k in 0..64 {
-        if set.contains(k) {
-            write!(text, " {k}")?;
-        }
+    for k in set.iter() {
+        write!(text, " {k}")?;
     }
     Ok(())
 }
 
-#[tactic(auto, using(crate::proofs::Members::text_link))]
 fn push_link(text: &mut String, link: Option<Link>) -> Result<(), AllocError>
     ensures { OnOk result (string_bytes text.new ≡ string_bytes text.old ++ link_text (link_of link)) }
 {

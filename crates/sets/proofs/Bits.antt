@@ -1,14 +1,16 @@
 -- The bits of a number with one bit more, and the rising list of the numbers that pass a test.
-use Rattle.std.proofs.Common.{◌≡◌, ℕ, zero, suc, ◌+◌, ◌-◌, ◌*◌, ◌/◌, ◌%◌, ◌^◌, ◌<◌, ◌≤◌, Bool, true, false, if◌then◌else◌, ◌&&◌, ◌||◌, nat_lt, fold, ◌==◌, List, [], ◌∷◌, ◌≢◌, ◌⊎◌, filter, All, sym, refl, ap, ◌∙◌, subst, inl, inr, ⊎_elim, arith, pow_pos, pow-add}
+use Rattle.std.proofs.Common.{◌≡◌, w64, ℕ, zero, suc, ◌+◌, ◌-◌, ◌*◌, ◌/◌, ◌%◌, ◌^◌, ◌<◌, ◌≤◌, Bool, true, false, if◌then◌else◌, ◌&&◌, ◌||◌, nat_lt, fold, ◌==◌, List, [], ◌∷◌, ◌≢◌, ◌⊎◌, filter, All, sym, refl, ap, ◌∙◌, subst, inl, inr, ⊎_elim, arith, pow_pos, pow-add}
 use Rattle.std.proofs.Math.Bool.{or-false}
 use native.Mathlib.Nat.{div_self, div-eq_of_lt, mul-mod_right, mod-eq_of_lt, zero-div}
 use Rattle.std.proofs.Math.Pow.{shr_lt}
 use lib.Pow.{pow-lt, shl-shr}
-use lib.Bits.{bit_or, or_mod, or_shr}
+use lib.Bits.{bit_or, bit_xor, or_mod, or_shr}
 use Rattle.std.specs.List.{range_with_len}
 use Rattle.std.proofs.lemmas.Bool.{lt-ltb, le-ltb, cases_lt, cases_order, cases_eq, eq-eqb, eqb-true, ne_eqb, or_cases, or_left, false≢true}
 use Rattle.std.proofs.lemmas.List.Elements.{All-cons, All-nil}
-use Rattle.std.proofs.lemmas.Nat.{one_shl, or_lt, shr-shr}
+use Rattle.std.proofs.lemmas.Nat.Bits.{bit_at-trailing_zeros, bit_at_xor, bit_at-pow_same, bit_at-pow_other}
+use Rattle.std.specs.Int.{trailing_zeros}
+use Rattle.std.proofs.lemmas.Nat.{one_shl, or_lt, xor_lt, shr-shr}
 use Rattle.sets.specs.Sets.{added, bit, mem, ones, of_ones, rising}
 use Rattle.sets.specs.Ones.{bit-last, of_ones-from, of_ones-ones}
 
@@ -60,16 +62,16 @@ bit_more : (m s k : ℕ) → s < 64 → bit (bit_or m ((1 * 2 ^ s) % 2 ^ 64)) k 
 bit_more m s k h =
     ap (λ (n : ℕ). bit (bit_or m n) k) (one_shl s 64 h) ∙ bit-bit_or m (2 ^ s) k ∙ ap (λ (t : Bool). t || bit m k) (bit-pow s k)
 
-kept_same : (p q : ℕ → Bool) (a n : ℕ) → ((k : ℕ) → k < a + n → p k ≡ q k) → filter p (range_with_len a n) ≡ filter q (range_with_len a n)
+kept_same : (p q : ℕ → Bool) (a n : ℕ) → ((k : ℕ) → a ≤ k → k < a + n → p k ≡ q k) → filter p (range_with_len a n) ≡ filter q (range_with_len a n)
 kept_same p q a zero same = refl
 kept_same p q a (suc n) same =
-    let e : p a ≡ q a = same a (omega arith) in
-    rw (e, kept_same p q (a + 1) n (λ k h. same k (omega arith)))
+    let e : p a ≡ q a = same a (omega arith) (omega arith) in
+    rw (e, kept_same p q (a + 1) n (λ k low high. same k (omega arith) (omega arith)))
 
 -- two tests that agree below 64 give one list
 pub rising_same : (p q : ℕ → Bool) → ((k : ℕ) → k < 64 → p k ≡ q k) → rising p ≡ rising q
 unfolding rising
-rising_same p q same = kept_same p q 0 64 (λ k h. same k (omega arith))
+rising_same p q same = kept_same p q 0 64 (λ k low high. same k (omega arith))
 
 mem_out : (p : ℕ → Bool) (j a n : ℕ) → ((k : ℕ) → a ≤ k → k < a + n → j ≢ k) → mem j (filter p (range_with_len a n)) ≡ false
 mem_out p j a zero out = refl
@@ -227,4 +229,47 @@ pub of_numbers : (cs : List ℕ) → fold added [] cs ≡ rising (λ k. mem k cs
 of_numbers cs =
     ap (λ (s : List ℕ). fold added s cs) (sym none_rising) ∙ folded (λ _. false) cs ∙ rising_same _ _ (λ k h. or-false (mem k cs))
 
-pub ruleset set_facts = (ones_of_none, no_ones, below_64, nothing_left_below, below_nothing_left, mem_of_mask, small_more, ones_more, mem_of_more)
+-- the first that passes, and the others
+first_kept : (p q : ℕ → Bool) (k a n : ℕ) → a ≤ k → k < a + n → p k ≡ true → q k ≡ false → ((i : ℕ) → i < k → p i ≡ false) → ((i : ℕ) → i ≢ k → q i ≡ p i)
+    → filter p (range_with_len a n) ≡ k ∷ filter q (range_with_len a n)
+first_kept p q k a zero low high here gone below others = absurd (omega arith)
+first_kept p q k a (suc n) low high here gone below others =
+    elim (cases_eq a k) [
+      | inl same ↦
+          let first : p a ≡ true = ap p same ∙ here in
+          let left : q a ≡ false = ap q same ∙ gone in
+          rw (first, left)
+          (ap (λ (r : List ℕ). a ∷ r) (kept_same p q (a + 1) n (λ i after _. sym (others i (λ e. omega arith)))) ∙ ap (λ (x : ℕ). x ∷ filter q (range_with_len (a + 1) n)) same)
+      | inr before ↦
+          let under : a < k = omega arith in
+          rw (below a under, others a before ∙ below a under) (first_kept p q k (a + 1) n (omega arith) (omega arith) here gone below others)
+    ]
+
+one_is : (m k : ℕ) → m / 2 ^ k % 2 ≡ 1 → bit m k ≡ true
+one_is m k e = bit-last m k ∙ eq-eqb (m / 2 ^ k % 2) 1 e
+
+none_is : (m k : ℕ) → m / 2 ^ k % 2 ≡ 0 → bit m k ≡ false
+none_is m k e = bit-last m k ∙ ne_eqb (m / 2 ^ k % 2) 1 (λ one. omega arith)
+
+-- the set of a mask is its lowest place and the set of what is left without it
+pub lowest_first : (m : ℕ) → 0 < m → m < 2 ^ 64 → ones m ≡ trailing_zeros w64 m ∷ ones (bit_xor m ((1 * 2 ^ trailing_zeros w64 m) % 2 ^ 64))
+unfolding rising
+lowest_first m some small =
+    let k = trailing_zeros w64 m in
+    let lowest = bit_at-trailing_zeros w64 m some small in
+    let less : bit_xor m ((1 * 2 ^ k) % 2 ^ 64) ≡ bit_xor m (2 ^ k) = ap (bit_xor m) (one_shl k 64 lowest.0) in
+    first_kept (bit m) (bit (bit_xor m (2 ^ k))) k 0 64 (omega arith) lowest.0 (one_is m k lowest.1)
+    (none_is _ k (omega (arith, bit_at_xor m (2 ^ k) k, bit_at-pow_same k, lowest.1))) (λ i under. none_is m i (lowest.2 i under))
+    (λ i other. bit-last _ i ∙ ap (λ (n : ℕ). n == 1) (omega (arith, bit_at_xor m (2 ^ k) i, bit_at-pow_other k i other)) ∙ sym (bit-last m i))
+    ∙ ap (λ (n : ℕ). k ∷ ones n) (sym less)
+
+pub small_less : (m : ℕ) → 0 < m → m < 2 ^ 64 → bit_xor m ((1 * 2 ^ trailing_zeros w64 m) % 2 ^ 64) < 2 ^ 64
+small_less m some small = xor_lt 64 m _ small (omega arith)
+
+pub ruleset emptiness = (no_ones, ones_of_none)
+
+pub ruleset bounds = (below_64, nothing_left_below, below_nothing_left)
+
+pub ruleset one_more = (small_more, ones_more, mem_of_more)
+
+pub ruleset lowest = (ones_of_none, lowest_first, small_less)

@@ -1,9 +1,10 @@
 // A set of numbers below 64: steps or signals.
-ghost use Rattle.std.specs.Prelude.{◌≡◌, fold, ℕ, ◌<◌, ◌^◌, ◌↔◌, [], List, ◌||◌, ◌==◌, IsTrue, All};
+ghost use Rattle.std.specs.Prelude.{◌≡◌, fold, ℕ, ◌<◌, ◌^◌, ◌↔◌, [], List, ◌||◌, ◌==◌, IsTrue, All, ◌∷◌, MatchOption};
 ghost use Rattle.sets.specs.Sets.{mem, added, ones, of_ones};
 ghost use Rattle.sets.specs.Ones.{of_ones-ones};
 ghost use Rattle.std.proofs.Common.{ap};
 
+use crate::members::Members;
 use std::marker::Model;
 
 // Its bits are packed; a contract sees the rising list of its members.
@@ -24,8 +25,8 @@ impl Model for IndexSet {
     ghost inverse_ok = { λ s small. ap (λ (m : ℕ). record { mask = m }) (of_ones-ones s.mask small) };
 }
 
-#[tactic(auto, using(crate::proofs::Bits::set_facts))]
 impl IndexSet {
+    #[tactic(auto, using(crate::proofs::Bits::ones_of_none))]
     pub fn empty() -> IndexSet
         ensures { result ≡ [] }
     {
@@ -41,18 +42,21 @@ impl IndexSet {
             .fold(IndexSet::empty(), |set, number| set.with(*number))
     }
 
+    #[tactic(auto, using(crate::proofs::Bits::mem_of_mask))]
     pub fn contains(self, index: u8) -> bool
         ensures { result ≡ mem index self }
     {
         index < 64 && (self.mask >> index) & 1 == 1
     }
 
+    #[tactic(auto, using(crate::proofs::Bits::emptiness))]
     pub fn is_empty(self) -> bool
         ensures { IsTrue result ↔ (self ≡ []) }
     {
         self.mask == 0
     }
 
+    #[tactic(auto, using(crate::proofs::Bits::bounds))]
     pub fn is_below(self, bound: u8) -> bool
         ensures { IsTrue result ↔ All (λ k. k < bound) self }
     {
@@ -60,6 +64,7 @@ impl IndexSet {
     }
 
     // The set with one number more; a number past 63 adds nothing.
+    #[tactic(auto, using(crate::proofs::Bits::one_more))]
     pub fn with(self, index: u8) -> IndexSet
         ensures value { result ≡ added self index }
         ensures has { (k : ℕ) → k < 64 → mem k result ≡ (k == index || mem k self) }
@@ -70,5 +75,29 @@ impl IndexSet {
         IndexSet {
             mask: self.mask | 1 << index,
         }
+    }
+
+    // The members, the lowest first.
+    pub fn iter(self) -> Members
+        ensures { result ≡ self }
+    {
+        Members::new(self)
+    }
+
+    // The lowest member, and the others.
+    #[tactic(auto, using(crate::proofs::Bits::lowest))]
+    pub(crate) fn split_first(self) -> Option<(u8, IndexSet)>
+        ensures { MatchOption result (self ≡ []) (λ x. self ≡ x.0 ∷ x.1) }
+    {
+        if self.mask == 0 {
+            return None;
+        }
+        let lowest = self.mask.trailing_zeros() as u8;
+        Some((
+            lowest,
+            IndexSet {
+                mask: self.mask ^ 1 << lowest,
+            },
+        ))
     }
 }

@@ -2,3 +2,6 @@
 #![tactic(auto)]
 
 pub mod index_set;
+pub mod members;
+#[cfg(test)]
+mod tests;
