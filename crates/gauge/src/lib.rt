@@ -1,6 +1,7 @@
 //! Gauges: whether a word of a signal meets a condition.
 #![tactic(auto)]
 
+mod condition;
 mod gauge;
 mod levels;
 mod lowest;
@@ -8,6 +9,7 @@ mod positions;
 mod split;
 mod standard;
 
+pub use condition::Condition;
 pub use gauge::Gauge;
 pub use levels::Levels;
 pub use lowest::lowest_word;

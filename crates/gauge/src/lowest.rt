@@ -2,12 +2,13 @@
 ghost use Rattle.std.specs.Prelude.{◌≡◌};
 ghost use Rattle.gauge.specs.Lowest.{lowest_word, LowestExactly};
 
+use crate::condition::Condition;
 use crate::gauge::Gauge;
 
 // None for a condition that no word meets.
-pub fn lowest_word<G: Gauge>(gauge: &G, signal: u16, a: u16, b: u16) -> Option<u16>
-    ensures value { result ≡ lowest_word (G.meaning gauge.now signal a b) }
+pub fn lowest_word<G: Gauge>(gauge: &G, signal: u16, condition: Condition) -> Option<u16>
+    ensures value { result ≡ lowest_word (G.meaning gauge.now signal condition.a condition.b) }
     ensures law { LowestExactly }
 {
-    (0..=u16::MAX).find(|&word| gauge.meets(signal, a, b, word))
+    (0..=u16::MAX).find(|&word| gauge.meets(signal, condition, word))
 }

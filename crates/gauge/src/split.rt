@@ -2,6 +2,7 @@
 ghost use Rattle.std.specs.Prelude.{◌≡◌};
 ghost use Rattle.gauge.specs.Meaning.{split};
 
+use crate::condition::Condition;
 use crate::gauge::Gauge;
 
 // Signals below the boundary go to the first gauge, the others to the second, under their own numbers.
@@ -27,11 +28,11 @@ impl<G, H> Split<G, H> {
 impl<G: Gauge, H: Gauge> Gauge for Split<G, H> {
     ghost meaning = { λ s. split s.boundary (G.meaning s.first) (H.meaning s.second) };
 
-    fn meets(&self, signal: u16, a: u16, b: u16, word: u16) -> bool {
+    fn meets(&self, signal: u16, condition: Condition, word: u16) -> bool {
         if signal < self.boundary {
-            self.first.meets(signal, a, b, word)
+            self.first.meets(signal, condition, word)
         } else {
-            self.second.meets(signal, a, b, word)
+            self.second.meets(signal, condition, word)
         }
     }
 }

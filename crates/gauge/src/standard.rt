@@ -3,6 +3,7 @@ ghost use Rattle.std.specs.Prelude.{◌≡◌};
 ghost use Rattle.gauge.specs.Marked.{MarkedCases};
 ghost use Rattle.gauge.specs.Meaning.{standard};
 
+use crate::condition::Condition;
 use crate::gauge::Gauge;
 use crate::levels::Levels;
 use crate::positions::Positions;
@@ -16,9 +17,9 @@ pub fn standard_gauge() -> Split<Positions, Levels>
 }
 
 // Asks that gauge. The contract says what the three gauges of this crate mean, since it is met through their own calls.
-pub fn meets_standard(signal: u16, a: u16, b: u16, word: u16) -> bool
-    ensures value { result ≡ standard signal a b word }
+pub fn meets_standard(signal: u16, condition: Condition, word: u16) -> bool
+    ensures value { result ≡ standard signal condition.a condition.b word }
     ensures marked { MarkedCases }
 {
-    standard_gauge().meets(signal, a, b, word)
+    standard_gauge().meets(signal, condition, word)
 }

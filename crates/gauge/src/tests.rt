@@ -45,10 +45,19 @@ const NESTED: &[Row] = &[
     ("the highest signal", 65535, 32768, 0, 15, true),
 ];
 
+fn on(a: u16, b: u16) -> Condition {
+    Condition { a, b }
+}
+
 fn check_rows<G: Gauge>(rt: &impl Abort, gauge: &G, rows: &[Row]) {
     for row in rows {
         let (rule, signal, a, b, word, met) = *row;
-        assert_eq!(rt; gauge.meets(signal, a, b, word), met, "{}", rule);
+        assert_eq!(rt;
+            gauge.meets(signal, Condition { a, b }, word),
+            met,
+            "{}",
+            rule
+        );
     }
 }
 
@@ -72,33 +81,33 @@ fn meets(rt: HostRuntime) {
 #[test]
 fn standard(rt: HostRuntime) {
     let gauge = standard_gauge();
-    assert!(rt; gauge.meets(31, 32768, 0, 15));
-    assert!(rt; !gauge.meets(32, 32768, 0, 15));
-    assert!(rt; gauge.meets(32, 65535, 0, 65535));
-    assert!(rt; !gauge.meets(31, 65535, 0, 65535));
-    assert!(rt; meets_standard(31, 32768, 0, 15));
-    assert!(rt; !meets_standard(32, 32768, 0, 15));
+    assert!(rt; gauge.meets(31, on(32768, 0), 15));
+    assert!(rt; !gauge.meets(32, on(32768, 0), 15));
+    assert!(rt; gauge.meets(32, on(65535, 0), 65535));
+    assert!(rt; !gauge.meets(31, on(65535, 0), 65535));
+    assert!(rt; meets_standard(31, on(32768, 0), 15));
+    assert!(rt; !meets_standard(32, on(32768, 0), 15));
 }
 
 #[test]
 fn lowest(rt: HostRuntime) {
-    assert_eq!(rt; lowest_word(&Positions, 0, 96, 0), Some(5));
-    assert_eq!(rt; lowest_word(&Positions, 0, 96, 1), None);
+    assert_eq!(rt; lowest_word(&Positions, 0, on(96, 0)), Some(5));
+    assert_eq!(rt; lowest_word(&Positions, 0, on(96, 1)), None);
     // -2 to 3: as words, 0 to 3 and then 65534 and 65535.
-    assert_eq!(rt; lowest_word(&Levels, 0, 65534, 3), Some(0));
-    assert_eq!(rt; lowest_word(&Levels, 0, 65534, 65535), Some(65534));
-    assert_eq!(rt; lowest_word(&Levels, 0, 1, 0), None);
+    assert_eq!(rt; lowest_word(&Levels, 0, on(65534, 3)), Some(0));
+    assert_eq!(rt; lowest_word(&Levels, 0, on(65534, 65535)), Some(65534));
+    assert_eq!(rt; lowest_word(&Levels, 0, on(1, 0)), None);
     let gauge = Split::new(Positions, Levels, 1);
-    assert_eq!(rt; lowest_word(&gauge, 0, 32768, 0), Some(15));
-    assert_eq!(rt; lowest_word(&gauge, 1, 32768, 32768), Some(32768));
+    assert_eq!(rt; lowest_word(&gauge, 0, on(32768, 0)), Some(15));
+    assert_eq!(rt; lowest_word(&gauge, 1, on(32768, 32768)), Some(32768));
 }
 
 // A gauge of one's own goes wherever a gauge goes.
 #[test]
 fn another_gauge(rt: HostRuntime) {
-    assert!(rt; !AtLeast.meets(0, 40000, 0, 39999));
-    assert_eq!(rt; lowest_word(&AtLeast, 0, 40000, 0), Some(40000));
+    assert!(rt; !AtLeast.meets(0, on(40000, 0), 39999));
+    assert_eq!(rt; lowest_word(&AtLeast, 0, on(40000, 0)), Some(40000));
     let gauge = Split::new(AtLeast, Levels, 8);
-    assert!(rt; gauge.meets(7, 1, 0, 65535));
-    assert!(rt; !gauge.meets(8, 1, 0, 65535));
+    assert!(rt; gauge.meets(7, on(1, 0), 65535));
+    assert!(rt; !gauge.meets(8, on(1, 0), 65535));
 }

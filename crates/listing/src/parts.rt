@@ -4,6 +4,7 @@ ghost use Rattle.sheet.specs.Model.{link_of, need_of};
 ghost use Rattle.listing.specs.Listing.{signal_line, effect_line, need_line, pair_line, spaced, link_text};
 
 use crate::lines::Line;
+use gauge::Condition;
 use sets::index_set::IndexSet;
 use sheet::parts::{Effect, Link, Need, Pair};
 use std::alloc::AllocError;
@@ -54,8 +55,7 @@ impl Line for Need {
         let Need {
             step,
             signal,
-            a,
-            b,
+            condition: Condition { a, b },
             link,
         } = *self;
         write!(

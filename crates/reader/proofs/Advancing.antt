@@ -22,7 +22,7 @@ pub is_end-more : (r : Record) → (r ≡ End → ⊥) → is_end (item_of r) �
 is_end-more (Header steps signals) ne = refl
 is_end-more (Start word) ne = refl
 is_end-more (Effect e) ne = refl
-is_end-more (Need step signal a b) ne = refl
+is_end-more (Need step signal condition) ne = refl
 is_end-more (Pair earlier later) ne = refl
 is_end-more (Link need contributors) ne = refl
 is_end-more (Name step name) ne = refl

@@ -15,11 +15,11 @@ made (Some link) set none some = some
 
 module _ (needs : List HeldNeed) (n : ℕ) (cs set : List ℕ) (inside : n < length needs) (old : HeldNeed) (there : (d : HeldNeed) → old ≡ slice_index_or needs n d) where
   pub needs_linked : (o : Option (List ℕ)) → set ≡ fold added [] cs → (IsNone o ↔ (set ≡ [])) → IfSome o (λ link. link ≡ set)
-      → map need_of (slice_set needs n (record { step = old.step; signal = old.signal; a = old.a; b = old.b; link = o }))
+      → map need_of (slice_set needs n (record { step = old.step; signal = old.signal; condition = old.condition; link = o }))
       ≡ slice_set (map need_of needs) n (linked_by cs (slice_index_or (map need_of needs) n no_need))
   needs_linked o gathered none some =
       let contributors : link_of o ≡ rising (λ k. mem k cs) = made o set none some ∙ gathered ∙ of_numbers cs in
       let before : slice_index_or (map need_of needs) n no_need ≡ need_of old = get_or-map need_of needs n old no_need inside ∙ ap need_of (sym (there old)) in
-      let after : need_of (record { step = old.step; signal = old.signal; a = old.a; b = old.b; link = o }) ≡ linked_by cs (need_of old) =
-      ap (λ (ks : List ℕ). record { step = old.step; signal = old.signal; a = old.a; b = old.b; link = ks }) contributors in
+      let after : need_of (record { step = old.step; signal = old.signal; condition = old.condition; link = o }) ≡ linked_by cs (need_of old) =
+      ap (λ (ks : List ℕ). record { step = old.step; signal = old.signal; a = old.condition.a; b = old.condition.b; link = ks }) contributors in
       map-set need_of needs n _ ∙ ap (slice_set (map need_of needs) n) (after ∙ ap (linked_by cs) (sym before))

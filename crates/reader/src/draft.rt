@@ -33,11 +33,14 @@ pub(crate) fn add(parts: &mut Parts, candidate: Record) -> Result<(), AllocError
         Record::Header { steps, .. } => parts.steps = steps,
         Record::Start { word } => parts.starts.push(word)?,
         Record::Effect { effect } => parts.effects.push(effect)?,
-        Record::Need { step, signal, a, b } => parts.needs.push(Need {
+        Record::Need {
             step,
             signal,
-            a,
-            b,
+            condition,
+        } => parts.needs.push(Need {
+            step,
+            signal,
+            condition,
             link: None,
         })?,
         Record::Pair { earlier, later } => parts.pairs.push(Pair { earlier, later })?,

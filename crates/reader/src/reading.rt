@@ -11,7 +11,7 @@ use sheet::sheet::Sheet;
 use std::alloc::{AllocError, Global};
 
 // Why a file is not read: its fault, or want of memory.
-#[derive(Clone, Copy)]
+#[derive(Clone, Copy, PartialEq, Eq, Debug)]
 pub enum ReadError {
     Fault(ReaderFault),
     Memory,

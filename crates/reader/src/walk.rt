@@ -9,10 +9,11 @@ ghost use Rattle.reader.specs.Walk.{After, Reached, Onward};
 
 use crate::ledger::Ledger;
 use faults::fault::{Cause, ReaderFault};
+use records::cursor::Cursor;
 use records::record::Record;
-use records::{body_at, mark_at};
 
-// The place of the next record, and what those before it have said.
+// The place of the next record, and what those before it have said. The place is no `Cursor` here: with one in this struct
+// the borrow checker writes no proof of `name`.
 #[derive(Drop)]
 pub(crate) struct Walk<'a> {
     file: &'a [u8],
@@ -21,27 +22,26 @@ pub(crate) struct Walk<'a> {
 }
 
 impl Ledger {
-    // The record at a place of the file, if it may follow those before it, and the place after it.
-    fn read_record<'a>(
-        &mut self,
-        file: &'a [u8],
-        at: u16,
-    ) -> Result<(Record<'a>, usize), ReaderFault>
-        ensures value { (s : Said) → Shows self.old s → shown result ≡ next file.now s at }
+    // The record at this place, if it may follow those before it, and the place after it.
+    fn read_record<'a>(&mut self, cursor: &Cursor<'a>) -> Result<(Record<'a>, usize), ReaderFault>
+        ensures value { (s : Said) → Shows self.old s → shown result ≡ next cursor.now.file.now s cursor.now.at }
         ensures after { IfOk result (λ x. (s : Said) → Shows self.old s → Shows self.new (said s (item_of x.0))) }
-        ensures places { Placed at result }
+        ensures places { Placed cursor.now.at result }
     {
-        let mark = mark_at(file, at)?;
+        let mark = cursor.mark()?;
         if !self.may_stand(mark) {
             return Err(ReaderFault {
                 cause: Cause::Mark,
-                place: at,
+                place: cursor.at,
             });
         }
-        let (record, end) = body_at(file, at, mark)?;
+        let (record, end) = cursor.body(mark)?;
         match self.admit(record) {
             Ok(()) => Ok((record, end)),
-            Err(cause) => Err(ReaderFault { cause, place: at }),
+            Err(cause) => Err(ReaderFault {
+                cause,
+                place: cursor.at,
+            }),
         }
     }
 }
@@ -69,7 +69,11 @@ impl<'a> Walk<'a> {
         requires { Reached self.old }
         ensures { (past : List Item) (n : ℕ) → After self.old past n → Onward self.old past n result self.new }
     {
-        let (record, end) = self.ledger.read_record(self.file, self.at)?;
+        let cursor = Cursor {
+            file: self.file,
+            at: self.at,
+        };
+        let (record, end) = self.ledger.read_record(&cursor)?;
         if let Record::End = record {
             if end < self.file.len() {
                 return Err(ReaderFault {

@@ -37,7 +37,7 @@ fn parts(rt: HostRuntime) -> Result<(), Fail> {
 }
 
 fn fields(need: &Need) -> (u8, u8, u16, u16) {
-    (need.step, need.signal, need.a, need.b)
+    (need.step, need.signal, need.condition.a, need.condition.b)
 }
 
 // A contributor that is named twice counts once.

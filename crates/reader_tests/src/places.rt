@@ -1,6 +1,6 @@
 // The records of a file, at their places.
 use faults::fault::{Cause, ReaderFault};
-use records::next_record;
+use records::cursor::Cursor;
 use records::record::Record;
 use std::test::Fail;
 
@@ -8,6 +8,10 @@ use std::test::Fail;
 // that names step 2 twice. A name for step 1.
 const SHEET: &[u8] =
     b"SH\x03\x01SG\x01\x02EF\x01\x00\xff\x01ND\x01\x00\x00\x01\x00\x02ND\x02\x00\x80\x00\x00\x00LK\x00\x03\x02\x00\x02PR\x00\x01NM\x01\x05PressEN";
+
+fn at(at: u16) -> Cursor<'static> {
+    Cursor { file: SHEET, at }
+}
 
 fn kind(record: Record) -> &'static str {
     match record {
@@ -20,8 +24,7 @@ fn kind(record: Record) -> &'static str {
         Record::Need {
             step: _,
             signal: _,
-            a: _,
-            b: _,
+            condition: _,
         } => "need",
         Record::Pair {
             earlier: _,
@@ -56,7 +59,7 @@ const RECORDS: &[(u16, &str, usize)] = &[
 #[test]
 fn records(rt: HostRuntime) {
     for row in RECORDS.iter() {
-        let found = match next_record(SHEET, row.0) {
+        let found = match at(row.0).read() {
             Ok((record, end)) => (kind(record), end),
             Err(
                 ReaderFault {
@@ -78,7 +81,7 @@ fn records(rt: HostRuntime) {
 
 #[test]
 fn a_link_record(rt: HostRuntime) -> Result<(), Fail> {
-    let Ok((Record::Link { need, contributors }, 37)) = next_record(SHEET, 30) else {
+    let Ok((Record::Link { need, contributors }, 37)) = at(30).read() else {
         return Err(Fail::new("a link"));
     };
     assert_eq!(rt; (need, contributors.place), (0, 34));

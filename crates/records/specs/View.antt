@@ -16,7 +16,7 @@ abbrev pub item_of : Record → Item
 item_of (Header steps signals) = header steps signals
 item_of (Start word) = start word
 item_of (Effect e) = effect e
-item_of (Need step signal a b) = need step signal a b
+item_of (Need step signal condition) = need step signal condition.a condition.b
 item_of (Pair earlier later) = pair earlier later
 item_of (Link n contributors) = link n contributors.bytes.now
 item_of (Name step letters) = name step letters.bytes.now
@@ -38,7 +38,7 @@ abbrev pub PlacedAt : ℕ → Record → Type 0
 PlacedAt p (Header steps signals) = Unit {0}
 PlacedAt p (Start word) = Unit {0}
 PlacedAt p (Effect e) = Unit {0}
-PlacedAt p (Need step signal a b) = Unit {0}
+PlacedAt p (Need step signal condition) = Unit {0}
 PlacedAt p (Pair earlier later) = Unit {0}
 PlacedAt p (Link n contributors) = contributors.place ≡ p + 4
 PlacedAt p (Name step letters) = letters.place ≡ p + 4

@@ -1,4 +1,5 @@
 // The records of a sheet file, as parts of the file.
+use gauge::Condition;
 use sheet::parts::Effect;
 
 // The two letters that a record begins with say its kind.
@@ -36,8 +37,7 @@ pub enum Record<'a> {
     Need {
         step: u8,
         signal: u8,
-        a: u16,
-        b: u16,
+        condition: Condition,
     },
     Pair {
         earlier: u8,

@@ -29,7 +29,7 @@ link_of None = []
 link_of (Some contributors) = contributors
 
 abbrev pub need_of : HeldNeed → Need
-need_of n = record { step = n.step; signal = n.signal; a = n.a; b = n.b; link = link_of n.link }
+need_of n = record { step = n.step; signal = n.signal; a = n.condition.a; b = n.condition.b; link = link_of n.link }
 
 abbrev pub model_of : Parts → Sheet
 model_of p =

@@ -2,6 +2,7 @@
 ghost use Rattle.std.specs.Prelude.{◌≡◌, ◌≢◌, ℕ, List, [], ◌↔◌, IsTrue, IsNone, IfSome};
 ghost use Rattle.sheet.specs.Fit.{LinkFits};
 
+use gauge::Condition;
 use sets::index_set::IndexSet;
 use std::marker::Model;
 
@@ -49,13 +50,12 @@ impl Link {
     }
 }
 
-// What a step asks of a signal before it may run: a condition of two numbers, which a gauge reads.
+// What a step asks of a signal before it may run: a condition, which a gauge reads.
 #[derive(Clone, Copy)]
 pub struct Need {
     pub step: u8,
     pub signal: u8,
-    pub a: u16,
-    pub b: u16,
+    pub condition: Condition,
     pub link: Option<Link>,
 }
 

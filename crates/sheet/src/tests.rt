@@ -1,6 +1,7 @@
 // The limits of a sheet from both sides.
 use crate::parts::{Effect, Link, Need, Pair, Parts};
 use crate::sheet::Sheet;
+use gauge::Condition;
 use sets::index_set::IndexSet;
 use std::alloc::{AllocError, Global};
 use std::test::Fail;
@@ -138,8 +139,7 @@ fn sheet_of(heap: Global, row: &Row, copies: u8) -> Result<Option<Sheet>, AllocE
     needs.push(Need {
         step: row.need.0,
         signal: row.need.1,
-        a: 1,
-        b: 0,
+        condition: Condition { a: 1, b: 0 },
         link,
     })?;
     let mut pairs = Vec::new(heap);

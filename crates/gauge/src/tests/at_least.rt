@@ -1,7 +1,7 @@
 // A gauge as a buyer would write one.
 ghost use Rattle.std.specs.Prelude.{nat_le};
 
-use crate::Gauge;
+use crate::{Condition, Gauge};
 
 // A word meets the condition from a on, without sign; b is not looked at.
 #[derive(Clone, Copy)]
@@ -10,7 +10,7 @@ pub struct AtLeast;
 impl Gauge for AtLeast {
     ghost meaning = { λ _ signal a b word. nat_le a word };
 
-    fn meets(&self, _signal: u16, a: u16, _b: u16, word: u16) -> bool {
-        a <= word
+    fn meets(&self, _signal: u16, condition: Condition, word: u16) -> bool {
+        condition.a <= word
     }
 }

@@ -6,7 +6,7 @@ use Rattle.gauge.proofs.lowest.lowest_word.Goals as goal
 
 pub returns : goal.returns
 returns g c =
-    let words = g.G.Gauge.meaning c.args.gauge.now c.args.signal c.args.a c.args.b in
+    let words = g.G.Gauge.meaning c.args.gauge.now c.args.signal c.args.condition.a c.args.condition.b in
     let each = every_word c.new.result (omega arith) (omega arith) c.new.ensures.exhausted in
     record {
       value = found_first words c.find.result (find_from_yields_List words _ _ _ c.find.ensures.ran each (λ word b f call. search (rules, tests)));

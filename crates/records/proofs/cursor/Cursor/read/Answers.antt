@@ -1,5 +1,5 @@
 use Rattle.records.proofs.Writing.{records_exactly}
-use Rattle.records.proofs.shape.next_record.Goals as goal
+use Rattle.records.proofs.cursor.Cursor.read.Goals as goal
 
 pub returns-in_err-mark-clause-exact : goal.returns-in_err-mark-clause-exact
 returns-in_err-mark-clause-exact c = records_exactly

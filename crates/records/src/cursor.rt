@@ -1,0 +1,187 @@
+// Reading the record at a place of a file: its mark, its fields, their limits, the rest of its bytes.
+ghost use Rattle.std.specs.Prelude.{◌≡◌, ◌+◌, Ok};
+ghost use Rattle.records.specs.declared.record.Mark.TheVariants as mark;
+ghost use Rattle.records.specs.Standing.{RecordsExactly};
+ghost use Rattle.records.specs.Shape.{fault, on_ok, mark_at, byte_at, part, part_at, whole, body_at, record_at};
+ghost use Rattle.records.specs.View.{shown, part_shown, owned_shown, Placed};
+
+use crate::record::{Mark, Part, Record};
+use faults::fault::{Cause, ReaderFault};
+use gauge::Condition;
+use sheet::parts::Effect;
+
+// A place of a file.
+#[derive(Clone, Copy)]
+pub struct Cursor<'a> {
+    pub file: &'a [u8],
+    pub at: u16,
+}
+
+impl<'a> Cursor<'a> {
+    fn fault(&self, cause: Cause) -> ReaderFault
+        ensures { result ≡ fault cause self.now.at }
+    {
+        ReaderFault {
+            cause,
+            place: self.at,
+        }
+    }
+
+    pub fn mark(&self) -> Result<Mark, ReaderFault>
+        ensures { result ≡ mark_at self.now.file.now self.now.at }
+    {
+        let Some([first, second, ..]) = self.file.get(usize::from(self.at)..) else {
+            return Err(self.fault(Cause::CutShort));
+        };
+        match Mark::try_from([*first, *second]) {
+            Ok(mark) => Ok(mark),
+            Err(cause) => Err(self.fault(cause)),
+        }
+    }
+
+    fn header(&self) -> Result<(Record<'a>, usize), ReaderFault>
+        ensures { shown result ≡ body_at self.now.file.now self.now.at mark.Header }
+    {
+        let Some([_, _, steps, signals, ..]) = self.file.get(usize::from(self.at)..) else {
+            return Err(self.fault(Cause::CutShort));
+        };
+        if !(2..=64).contains(steps) || !(1..=64).contains(signals) {
+            return Err(self.fault(Cause::OffLimits));
+        }
+        let record = Record::Header {
+            steps: *steps,
+            signals: *signals,
+        };
+        Ok((record, usize::from(self.at) + 4))
+    }
+
+    fn start(&self) -> Result<(Record<'a>, usize), ReaderFault>
+        ensures { shown result ≡ body_at self.now.file.now self.now.at mark.Start }
+    {
+        let Some([_, _, high, low, ..]) = self.file.get(usize::from(self.at)..) else {
+            return Err(self.fault(Cause::CutShort));
+        };
+        let record = Record::Start {
+            word: u16::from_be_bytes([*high, *low]),
+        };
+        Ok((record, usize::from(self.at) + 4))
+    }
+
+    fn effect(&self) -> Result<(Record<'a>, usize), ReaderFault>
+        ensures { shown result ≡ body_at self.now.file.now self.now.at mark.Effect }
+    {
+        let Some([_, _, step, signal, high, low, ..]) = self.file.get(usize::from(self.at)..) else {
+            return Err(self.fault(Cause::CutShort));
+        };
+        let effect = Effect {
+            step: *step,
+            signal: *signal,
+            word: u16::from_be_bytes([*high, *low]),
+        };
+        Ok((Record::Effect { effect }, usize::from(self.at) + 6))
+    }
+
+    fn need(&self) -> Result<(Record<'a>, usize), ReaderFault>
+        ensures { shown result ≡ body_at self.now.file.now self.now.at mark.Need }
+    {
+        let Some([_, _, step, signal, a_high, a_low, b_high, b_low, ..]) = self
+            .file
+            .get(usize::from(self.at)..)
+        else {
+            return Err(self.fault(Cause::CutShort));
+        };
+        let record = Record::Need {
+            step: *step,
+            signal: *signal,
+            condition: Condition {
+                a: u16::from_be_bytes([*a_high, *a_low]),
+                b: u16::from_be_bytes([*b_high, *b_low]),
+            },
+        };
+        Ok((record, usize::from(self.at) + 8))
+    }
+
+    fn pair(&self) -> Result<(Record<'a>, usize), ReaderFault>
+        ensures { shown result ≡ body_at self.now.file.now self.now.at mark.Pair }
+    {
+        let Some([_, _, earlier, later, ..]) = self.file.get(usize::from(self.at)..) else {
+            return Err(self.fault(Cause::CutShort));
+        };
+        let record = Record::Pair {
+            earlier: *earlier,
+            later: *later,
+        };
+        Ok((record, usize::from(self.at) + 4))
+    }
+
+    // The part of so many bytes, which begins four bytes on from the mark.
+    fn part(&self, length: u8) -> Result<Part<'a>, ReaderFault>
+        ensures { part_shown result ≡ whole self.now.file.now self.now.at (self.now.at + 4 + length) (Ok (self.now.at + 4, part self.now.file.now (self.now.at + 4) length)) }
+    {
+        let place = usize::from(self.at) + 4;
+        match self.file.get(place..place + usize::from(length)) {
+            Some(bytes) => Ok(Part { place, bytes }),
+            None => Err(self.fault(Cause::CutShort)),
+        }
+    }
+
+    // A part of 1 to `most` bytes, with the number of the step or the need whose it is. Behind the mark stand that number and
+    // the length.
+    fn owned_part(&self, most: u8) -> Result<(u8, Part<'a>), ReaderFault>
+        ensures { owned_shown result ≡ on_ok (part_at self.now.file.now self.now.at most) (λ x. Ok (byte_at self.now.file.now (self.now.at + 2), x)) }
+    {
+        let Some([_, _, owner, length, ..]) = self.file.get(usize::from(self.at)..) else {
+            return Err(self.fault(Cause::CutShort));
+        };
+        if !(1..=most).contains(length) {
+            return Err(self.fault(Cause::OffLimits));
+        }
+        let part = self.part(*length)?;
+        Ok((*owner, part))
+    }
+
+    fn link(&self) -> Result<(Record<'a>, usize), ReaderFault>
+        ensures value { shown result ≡ body_at self.now.file.now self.now.at mark.Link }
+        ensures places { Placed self.now.at result }
+    {
+        let (need, contributors) = self.owned_part(64)?;
+        let end = contributors.place + contributors.bytes.len();
+        Ok((Record::Link { need, contributors }, end))
+    }
+
+    fn name(&self) -> Result<(Record<'a>, usize), ReaderFault>
+        ensures value { shown result ≡ body_at self.now.file.now self.now.at mark.Name }
+        ensures places { Placed self.now.at result }
+    {
+        let (step, name) = self.owned_part(24)?;
+        let end = name.place + name.bytes.len();
+        Ok((Record::Name { step, name }, end))
+    }
+
+    // The record here, which begins with this mark, and the place after it.
+    pub fn body(&self, mark: Mark) -> Result<(Record<'a>, usize), ReaderFault>
+        ensures value { shown result ≡ body_at self.now.file.now self.now.at mark }
+        ensures places { Placed self.now.at result }
+    {
+        match mark {
+            Mark::Header => self.header(),
+            Mark::Start => self.start(),
+            Mark::Effect => self.effect(),
+            Mark::Need => self.need(),
+            Mark::Pair => self.pair(),
+            Mark::Link => self.link(),
+            Mark::Name => self.name(),
+            Mark::End => Ok((Record::End, usize::from(self.at) + 2)),
+        }
+    }
+
+    // The record here, and the place after it. Names and contributors are parts of the file.
+    pub fn read(&self) -> Result<(Record<'a>, usize), ReaderFault>
+        ensures value { shown result ≡ record_at self.now.file.now self.now.at }
+        ensures places { Placed self.now.at result }
+        ensures exact { RecordsExactly }
+    {
+        let mark = self.mark()?;
+        self.body(mark)
+    }
+}
