@@ -30,18 +30,12 @@ impl Ledger {
     {
         let mark = cursor.mark()?;
         if !self.may_stand(mark) {
-            return Err(ReaderFault {
-                cause: Cause::Mark,
-                place: cursor.at,
-            });
+            return Err(cursor.fault(Cause::Mark));
         }
         let (record, end) = cursor.body(mark)?;
         match self.admit(record) {
             Ok(()) => Ok((record, end)),
-            Err(cause) => Err(ReaderFault {
-                cause,
-                place: cursor.at,
-            }),
+            Err(cause) => Err(cursor.fault(cause)),
         }
     }
 }

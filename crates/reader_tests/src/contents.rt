@@ -114,7 +114,7 @@ const UNNAMED: &[(&str, &[u8], u16, Option<(u8, u16, Layer)>)] = &[
 
 #[test]
 fn no_name(rt: HostRuntime) {
-    for row in UNNAMED.iter() {
-        assert_eq!(rt; fault_of(name(row.1, row.2)), row.3, "{}", row.0);
+    for &(what, file, step, fault) in UNNAMED {
+        assert_eq!(rt; fault_of(name(file, step)), fault, "{what}");
     }
 }

@@ -15,26 +15,13 @@ fn at(at: u16) -> Cursor<'static> {
 
 fn kind(record: Record) -> &'static str {
     match record {
-        Record::Header {
-            steps: _,
-            signals: _,
-        } => "header",
-        Record::Start { word: _ } => "start",
-        Record::Effect { effect: _ } => "effect",
-        Record::Need {
-            step: _,
-            signal: _,
-            condition: _,
-        } => "need",
-        Record::Pair {
-            earlier: _,
-            later: _,
-        } => "pair",
-        Record::Link {
-            need: _,
-            contributors: _,
-        } => "link",
-        Record::Name { step: _, name: _ } => "name",
+        Record::Header { .. } => "header",
+        Record::Start { .. } => "start",
+        Record::Effect { .. } => "effect",
+        Record::Need { .. } => "need",
+        Record::Pair { .. } => "pair",
+        Record::Link { .. } => "link",
+        Record::Name { .. } => "name",
         Record::End => "end",
     }
 }
@@ -58,8 +45,8 @@ const RECORDS: &[(u16, &str, usize)] = &[
 
 #[test]
 fn records(rt: HostRuntime) {
-    for row in RECORDS.iter() {
-        let found = match at(row.0).read() {
+    for &(place, kind_there, end) in RECORDS {
+        let found = match at(place).read() {
             Ok((record, end)) => (kind(record), end),
             Err(
                 ReaderFault {
@@ -75,7 +62,7 @@ fn records(rt: HostRuntime) {
             ) => ("fault 2", usize::from(place)),
             Err(_) => ("another fault", 0),
         };
-        assert_eq!(rt; found, (row.1, row.2));
+        assert_eq!(rt; found, (kind_there, end));
     }
 }
 

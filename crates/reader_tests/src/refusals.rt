@@ -148,14 +148,14 @@ fn fault_of(heap: Global, file: &[u8]) -> Result<Option<(u8, u16)>, Fail> {
 // What stands after the head, with the number and the place of the fault.
 #[test]
 fn after_the_head(rt: HostRuntime) -> Result<(), Fail> {
-    for row in AFTER_HEAD.iter() {
+    for &(what, rest, number, place) in AFTER_HEAD {
         let mut file = HEAD.to_vec(rt.alloc())?;
-        file.extend_from_slice(row.1)?;
+        file.extend_from_slice(rest)?;
         assert_eq!(rt;
-            fault_of(rt.alloc(), file.as_slice())?,
-            Some((row.2, row.3)),
+            fault_of(rt.alloc(), &file)?,
+            Some((number, place)),
             "{}",
-            row.0
+            what
         );
     }
     Ok(())
@@ -164,12 +164,12 @@ fn after_the_head(rt: HostRuntime) -> Result<(), Fail> {
 // Whole files.
 #[test]
 fn whole_files(rt: HostRuntime) -> Result<(), Fail> {
-    for row in WHOLE.iter() {
+    for &(what, file, number, place) in WHOLE {
         assert_eq!(rt;
-            fault_of(rt.alloc(), row.1)?,
-            Some((row.2, row.3)),
+            fault_of(rt.alloc(), file)?,
+            Some((number, place)),
             "{}",
-            row.0
+            what
         );
     }
     Ok(())
@@ -210,10 +210,10 @@ const SIZES: &[(u8, u8, Option<(u8, u16)>)] = &[
 
 #[test]
 fn steps_and_signals(rt: HostRuntime) -> Result<(), Fail> {
-    for row in SIZES.iter() {
-        let mut file = headed(rt.alloc(), row.0, row.1)?;
+    for &(steps, signals, fault) in SIZES {
+        let mut file = headed(rt.alloc(), steps, signals)?;
         file.extend_from_slice(b"EN")?;
-        assert_eq!(rt; fault_of(rt.alloc(), file.as_slice())?, row.2);
+        assert_eq!(rt; fault_of(rt.alloc(), &file)?, fault);
     }
     Ok(())
 }
@@ -249,15 +249,15 @@ const COUNTED: &[(&str, &[u8], u16, &[u8], u8, u16)] = &[
 
 #[test]
 fn counts(rt: HostRuntime) -> Result<(), Fail> {
-    for row in COUNTED.iter() {
+    for &(what, one, count, last, number, place) in COUNTED {
         let mut file = HEAD.to_vec(rt.alloc())?;
-        add_copies(&mut file, row.1, row.2)?;
-        file.extend_from_slice(row.3)?;
+        add_copies(&mut file, one, count)?;
+        file.extend_from_slice(last)?;
         assert_eq!(rt;
-            fault_of(rt.alloc(), file.as_slice())?,
-            Some((row.4, row.5)),
+            fault_of(rt.alloc(), &file)?,
+            Some((number, place)),
             "{}",
-            row.0
+            what
         );
     }
     Ok(())
@@ -276,15 +276,15 @@ const EFFECTS: &[(&str, &[u8], u8, u16)] = &[
 
 #[test]
 fn effect_counts(rt: HostRuntime) -> Result<(), Fail> {
-    for row in EFFECTS.iter() {
+    for &(what, last, number, place) in EFFECTS {
         let mut file = headed(rt.alloc(), 64, 64)?;
         add_effects(&mut file, 256)?;
-        file.extend_from_slice(row.1)?;
+        file.extend_from_slice(last)?;
         assert_eq!(rt;
-            fault_of(rt.alloc(), file.as_slice())?,
-            Some((row.2, row.3)),
+            fault_of(rt.alloc(), &file)?,
+            Some((number, place)),
             "{}",
-            row.0
+            what
         );
     }
     Ok(())
@@ -299,14 +299,11 @@ const GROWN: &[(&[u8], u16, u8, u16)] = &[
 #[test]
 fn small_sheet_and_more(rt: HostRuntime) -> Result<(), Fail> {
     assert!(rt; SMALL.len() == 42);
-    for row in GROWN.iter() {
+    for &(one, count, number, place) in GROWN {
         let mut file = SMALL[0..40].to_vec(rt.alloc())?;
-        add_copies(&mut file, row.0, row.1)?;
+        add_copies(&mut file, one, count)?;
         file.extend_from_slice(b"EN")?;
-        assert_eq!(rt;
-            fault_of(rt.alloc(), file.as_slice())?,
-            Some((row.2, row.3))
-        );
+        assert_eq!(rt; fault_of(rt.alloc(), &file)?, Some((number, place)));
     }
     Ok(())
 }
@@ -339,14 +336,14 @@ const LENGTHS: &[(&[u8], u16, Option<(u8, u16)>)] = &[
 
 #[test]
 fn lengths(rt: HostRuntime) -> Result<(), Fail> {
-    for row in LENGTHS.iter() {
+    for &(record, length, fault) in LENGTHS {
         let mut file = HEAD.to_vec(rt.alloc())?;
         file.extend_from_slice(b"ND\x01\x00\x00\x01\x00\x00")?;
-        file.extend_from_slice(row.0)?;
-        file.push((row.1 % 256) as u8)?;
-        add_copies(&mut file, b"\x01", row.1)?;
+        file.extend_from_slice(record)?;
+        file.push((length % 256) as u8)?;
+        add_copies(&mut file, b"\x01", length)?;
         file.extend_from_slice(b"EN")?;
-        assert_eq!(rt; fault_of(rt.alloc(), file.as_slice())?, row.2);
+        assert_eq!(rt; fault_of(rt.alloc(), &file)?, fault);
     }
     Ok(())
 }
@@ -368,12 +365,12 @@ fn longest(rt: HostRuntime) -> Result<(), Fail> {
     }
     file.extend_from_slice(b"EN")?;
     assert_eq!(rt; file.len(), 25094);
-    assert_eq!(rt; fault_of(rt.alloc(), file.as_slice())?, None);
+    assert_eq!(rt; fault_of(rt.alloc(), &file)?, None);
     file.push(0)?;
-    assert_eq!(rt; fault_of(rt.alloc(), file.as_slice())?, Some((9, 25094)));
+    assert_eq!(rt; fault_of(rt.alloc(), &file)?, Some((9, 25094)));
     add_copies(&mut file, b"EN", 40000)?;
     assert_eq!(rt;
-        fault_of(rt.alloc(), file.as_slice())?,
+        fault_of(rt.alloc(), &file)?,
         Some((9, 25094)),
         "however long the file goes on"
     );

@@ -1,5 +1,5 @@
 // Reading the record at a place of a file: its mark, its fields, their limits, the rest of its bytes.
-ghost use Rattle.std.specs.Prelude.{◌≡◌, ◌+◌, Ok};
+ghost use Rattle.std.specs.Prelude.{◌≡◌, ℕ, ◌+◌, ◌^◌, ◌<◌, ◌≤◌, length, slice_index, Ok, OnOk, IfOk};
 ghost use Rattle.records.specs.declared.record.Mark.TheVariants as mark;
 ghost use Rattle.records.specs.Standing.{RecordsExactly};
 ghost use Rattle.records.specs.Shape.{fault, on_ok, mark_at, byte_at, part, part_at, whole, body_at, record_at};
@@ -18,7 +18,8 @@ pub struct Cursor<'a> {
 }
 
 impl<'a> Cursor<'a> {
-    fn fault(&self, cause: Cause) -> ReaderFault
+    // The fault of the record here.
+    pub fn fault(&self, cause: Cause) -> ReaderFault
         ensures { result ≡ fault cause self.now.at }
     {
         ReaderFault {
@@ -39,44 +40,45 @@ impl<'a> Cursor<'a> {
         }
     }
 
+    // The bytes behind the mark.
+    fn fields<const N: usize>(&self) -> Result<[u8; N], ReaderFault>
+        requires { N < 2 ^ 32 }
+        ensures value { result ≡ whole self.now.file.now self.now.at (self.now.at + 2 + N) (Ok (part self.now.file.now (self.now.at + 2) N)) }
+        ensures inside { OnOk result (self.now.at + 2 + N ≤ length self.now.file.now) }
+        ensures each { IfOk result (λ bytes. (k : ℕ) → k < N → slice_index bytes k ≡ byte_at self.now.file.now (self.now.at + 2 + k)) }
+    {
+        let start = usize::from(self.at) + 2;
+        match self.file.get(start..start + N) {
+            Some(bytes) => Ok(<[u8; N]>::try_from(bytes).unwrap()),
+            None => Err(self.fault(Cause::CutShort)),
+        }
+    }
+
     fn header(&self) -> Result<(Record<'a>, usize), ReaderFault>
         ensures { shown result ≡ body_at self.now.file.now self.now.at mark.Header }
     {
-        let Some([_, _, steps, signals, ..]) = self.file.get(usize::from(self.at)..) else {
-            return Err(self.fault(Cause::CutShort));
-        };
-        if !(2..=64).contains(steps) || !(1..=64).contains(signals) {
+        let [steps, signals] = self.fields::<2>()?;
+        if !(2..=64).contains(&steps) || !(1..=64).contains(&signals) {
             return Err(self.fault(Cause::OffLimits));
         }
-        let record = Record::Header {
-            steps: *steps,
-            signals: *signals,
-        };
-        Ok((record, usize::from(self.at) + 4))
+        Ok((Record::Header { steps, signals }, usize::from(self.at) + 4))
     }
 
     fn start(&self) -> Result<(Record<'a>, usize), ReaderFault>
         ensures { shown result ≡ body_at self.now.file.now self.now.at mark.Start }
     {
-        let Some([_, _, high, low, ..]) = self.file.get(usize::from(self.at)..) else {
-            return Err(self.fault(Cause::CutShort));
-        };
-        let record = Record::Start {
-            word: u16::from_be_bytes([*high, *low]),
-        };
-        Ok((record, usize::from(self.at) + 4))
+        let word = u16::from_be_bytes(self.fields::<2>()?);
+        Ok((Record::Start { word }, usize::from(self.at) + 4))
     }
 
     fn effect(&self) -> Result<(Record<'a>, usize), ReaderFault>
         ensures { shown result ≡ body_at self.now.file.now self.now.at mark.Effect }
     {
-        let Some([_, _, step, signal, high, low, ..]) = self.file.get(usize::from(self.at)..) else {
-            return Err(self.fault(Cause::CutShort));
-        };
+        let [step, signal, high, low] = self.fields::<4>()?;
         let effect = Effect {
-            step: *step,
-            signal: *signal,
-            word: u16::from_be_bytes([*high, *low]),
+            step,
+            signal,
+            word: u16::from_be_bytes([high, low]),
         };
         Ok((Record::Effect { effect }, usize::from(self.at) + 6))
     }
@@ -84,19 +86,15 @@ impl<'a> Cursor<'a> {
     fn need(&self) -> Result<(Record<'a>, usize), ReaderFault>
         ensures { shown result ≡ body_at self.now.file.now self.now.at mark.Need }
     {
-        let Some([_, _, step, signal, a_high, a_low, b_high, b_low, ..]) = self
-            .file
-            .get(usize::from(self.at)..)
-        else {
-            return Err(self.fault(Cause::CutShort));
+        let [step, signal, a_high, a_low, b_high, b_low] = self.fields::<6>()?;
+        let condition = Condition {
+            a: u16::from_be_bytes([a_high, a_low]),
+            b: u16::from_be_bytes([b_high, b_low]),
         };
         let record = Record::Need {
-            step: *step,
-            signal: *signal,
-            condition: Condition {
-                a: u16::from_be_bytes([*a_high, *a_low]),
-                b: u16::from_be_bytes([*b_high, *b_low]),
-            },
+            step,
+            signal,
+            condition,
         };
         Ok((record, usize::from(self.at) + 8))
     }
@@ -104,14 +102,8 @@ impl<'a> Cursor<'a> {
     fn pair(&self) -> Result<(Record<'a>, usize), ReaderFault>
         ensures { shown result ≡ body_at self.now.file.now self.now.at mark.Pair }
     {
-        let Some([_, _, earlier, later, ..]) = self.file.get(usize::from(self.at)..) else {
-            return Err(self.fault(Cause::CutShort));
-        };
-        let record = Record::Pair {
-            earlier: *earlier,
-            later: *later,
-        };
-        Ok((record, usize::from(self.at) + 4))
+        let [earlier, later] = self.fields::<2>()?;
+        Ok((Record::Pair { earlier, later }, usize::from(self.at) + 4))
     }
 
     // The part of so many bytes, which begins four bytes on from the mark.
@@ -130,14 +122,12 @@ impl<'a> Cursor<'a> {
     fn owned_part(&self, most: u8) -> Result<(u8, Part<'a>), ReaderFault>
         ensures { owned_shown result ≡ on_ok (part_at self.now.file.now self.now.at most) (λ x. Ok (byte_at self.now.file.now (self.now.at + 2), x)) }
     {
-        let Some([_, _, owner, length, ..]) = self.file.get(usize::from(self.at)..) else {
-            return Err(self.fault(Cause::CutShort));
-        };
-        if !(1..=most).contains(length) {
+        let [owner, length] = self.fields::<2>()?;
+        if !(1..=most).contains(&length) {
             return Err(self.fault(Cause::OffLimits));
         }
-        let part = self.part(*length)?;
-        Ok((*owner, part))
+        let part = self.part(length)?;
+        Ok((owner, part))
     }
 
     fn link(&self) -> Result<(Record<'a>, usize), ReaderFault>

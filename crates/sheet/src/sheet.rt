@@ -36,6 +36,7 @@ impl Sheet {
         }
     }
 
+    // This and the calls below say the limits too: a caller sees the value, and not the invariant that the fields keep.
     pub fn steps(&self) -> u8
         ensures value { result ≡ self.now.steps }
         ensures limits { Limits self.now }

@@ -1,4 +1,4 @@
-use Rattle.std.proofs.Common.{sym, ap, ◌∙◌}
+use Rattle.std.proofs.Common.{Err, sym, ap, ◌∙◌}
 use Rattle.std.proofs.lemmas.Result.{err_from_is_err_and}
 use Rattle.records.specs.declared.record.Mark.{Mark}
 use Rattle.reader.specs.Lawful.{stands_after}
@@ -14,7 +14,8 @@ returns-in_err-mark-clause-value c s shows =
 
 pub returns-then-not-may_stand-clause-value : goal.returns-then-not-may_stand-clause-value
 returns-then-not-may_stand-clause-value c s shows =
-    misplaced c.args.cursor.now.file.now s c.args.cursor.now.at c.in_ok-mark.mark c.in_ok-mark.ensures
+    ap Err c.fault.ensures
+    ∙ misplaced c.args.cursor.now.file.now s c.args.cursor.now.at c.in_ok-mark.mark c.in_ok-mark.ensures
     (c.if-not-may_stand.ensures ∙ shows_stands c.args.self.now s c.in_ok-mark.mark shows)
 
 pub returns-in_err-record-clause-value : goal.returns-in_err-record-clause-value
@@ -37,7 +38,8 @@ admit-requires c =
 
 pub returns-in-Err-clause-value : goal.returns-in-Err-clause-value
 returns-in-Err-clause-value c s shows =
-    refused c.args.cursor.now.file.now s c.args.cursor.now.at c.in_ok-mark.mark c.in_ok-mark.ensures _ _ _
+    ap Err c.fault-in-Err.ensures
+    ∙ refused c.args.cursor.now.file.now s c.args.cursor.now.at c.in_ok-mark.mark c.in_ok-mark.ensures _ _ _
     (c.if-not-may_stand.ensures ∙ shows_stands c.args.self.now s c.in_ok-mark.mark shows)
     c.in_ok-record.ensures.value (sym (c.in-Err.ensures s shows))
 
