@@ -6,6 +6,7 @@ use std::alloc::AllocError;
 
 // What has a line of its own, with its number in its list.
 // No `Display` of a pair: its output is an `Option`, so `push_lines` would have to require that there is one.
+// What stands in each clause of this crate, that bytes were appended, has no name: std's words say it in one line.
 pub trait Line {
     ghost line: { ℕ → Self → List ℕ };
 

@@ -3,6 +3,7 @@ ghost use Rattle.std.specs.Prelude.{◌≡◌, ◌++◌, string_bytes, OnOk};
 ghost use Rattle.std.specs.List.{flat_map};
 ghost use Rattle.listing.specs.Listing.{plain, shown_byte, name_line};
 
+use records::record::Part;
 use std::alloc::AllocError;
 
 fn is_plain(byte: u8) -> bool
@@ -33,10 +34,11 @@ fn push_bytes(text: &mut String, name: &[u8]) -> Result<(), AllocError>
 }
 
 // The name of a step, with the place of its first byte in the file.
-pub fn push_name(text: &mut String, step: u8, place: usize, name: &[u8]) -> Result<(), AllocError>
-    ensures { OnOk result (string_bytes text.new ≡ string_bytes text.old ++ name_line step place name.now) }
+pub fn push_name(text: &mut String, step: u8, name: &Part) -> Result<(), AllocError>
+    ensures { OnOk result (string_bytes text.new ≡ string_bytes text.old ++ name_line step name.now.place name.now.bytes.now) }
 {
+    let place = name.place;
     write!(text, "NAME step {step} at {place} ")?;
-    push_bytes(text, name)?;
+    push_bytes(text, name.bytes)?;
     text.push_str("\n")
 }

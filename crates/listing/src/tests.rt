@@ -3,6 +3,7 @@ use crate::name::push_name;
 use crate::whole::list;
 use faults::fault::Fault;
 use reader::ReadError;
+use records::record::Part;
 use std::test::Fail;
 
 // Names come in order of steps, and the contributors of a link in rising order, each once, however the file has them.
@@ -59,9 +60,13 @@ const NAMES: [(&[u8], &str); 6] = [
 
 #[test]
 fn names(rt: HostRuntime) -> Result<(), Fail> {
-    for (name, line) in NAMES {
+    for (bytes, line) in NAMES {
         let mut text = String::new(rt.alloc());
-        push_name(&mut text, 63, 65535, name)?;
+        let name = Part {
+            place: 65535,
+            bytes,
+        };
+        push_name(&mut text, 63, &name)?;
         assert_eq!(rt; text.as_str(), line);
     }
     Ok(())

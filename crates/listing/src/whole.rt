@@ -13,7 +13,7 @@ fn push_name_of(text: &mut String, file: &[u8], step: u8) -> Result<(), AllocErr
     ensures { OnOk result (string_bytes text.new ≡ string_bytes text.old ++ name_text step (naming file.now step)) }
 {
     match name(file, u16::from(step)) {
-        Ok(Some(part)) => push_name(text, step, part.place, part.bytes),
+        Ok(Some(part)) => push_name(text, step, &part),
         Ok(None) | Err(_) => Ok(()),
     }
 }

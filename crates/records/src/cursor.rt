@@ -130,6 +130,7 @@ impl<'a> Cursor<'a> {
         Ok((owner, part))
     }
 
+    // This and `name` are two functions: one that is passed the case would need a closure with clauses, and save no line.
     fn link(&self) -> Result<(Record<'a>, usize), ReaderFault>
         ensures value { shown result ≡ body_at self.now.file.now self.now.at mark.Link }
         ensures places { Placed self.now.at result }
@@ -148,11 +149,13 @@ impl<'a> Cursor<'a> {
         Ok((Record::Name { step, name }, end))
     }
 
-    // The record here, which begins with this mark, and the place after it.
+    // The record here, which begins with this mark, and the place after it. `places` is no part of the record's value, which
+    // knows no place, so each call that hands the record on says it.
     pub fn body(&self, mark: Mark) -> Result<(Record<'a>, usize), ReaderFault>
         ensures value { shown result ≡ body_at self.now.file.now self.now.at mark }
         ensures places { Placed self.now.at result }
     {
+        // a match and no table of functions: it names every mark, and a contract would have to say what a table holds
         match mark {
             Mark::Header => self.header(),
             Mark::Start => self.start(),

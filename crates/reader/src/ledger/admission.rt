@@ -155,6 +155,7 @@ impl Ledger {
         requires placed { stands_after self.old.steps self.old.signals self.old.starts (item.kind (item_of candidate)) ≡ true }
         ensures { Admits self.old (item_of candidate.entry) result self.new }
     {
+        // a match and no table of functions, as each case has fields of its own
         match candidate {
             Record::Header { steps, signals } => self.admit_header(steps, signals),
             Record::Start { .. } => self.admit_start(),
