@@ -35,7 +35,7 @@ abbrev pub writing : PlantMeaning → ℕ → ℕ → Result Unit PlantFault
 writing p signal word = accepting p.count p.top signal word
 
 abbrev pub with_word : PlantMeaning → ℕ → ℕ → PlantMeaning
-with_word p signal word = record { count = p.count; top = p.top; words = slice_set p.words signal word }
+with_word p signal word = record p { words = slice_set p.words signal word }
 
 abbrev pub written : PlantMeaning → ℕ → ℕ → PlantMeaning
 written p signal word = if nat_lt signal p.count && nat_le word p.top then with_word p signal word else p

@@ -20,7 +20,7 @@ setting p words = setting_from p 0 words
 
 abbrev pub all_set : PlantMeaning → List ℕ → PlantMeaning
 all_set p words =
-    if is_ok (setting p words) then record { count = p.count; top = p.top; words = words ++ drop (length words) p.words } else p
+    if is_ok (setting p words) then record p { words = words ++ drop (length words) p.words } else p
 
 abbrev pub SetsOne : PlantMeaning → ℕ → ℕ → Result Unit PlantFault → Type 0
 SetsOne p signal word (Ok done) =

@@ -31,23 +31,17 @@ abbrev pub open_need : ℕ → ℕ → ℕ → ℕ → Need
 open_need s x a b = record { step = s; signal = x; a = a; b = b; link = [] }
 
 abbrev pub linked_by : List ℕ → Need → Need
-linked_by cs n = record { step = n.step; signal = n.signal; a = n.a; b = n.b; link = rising (λ k. mem k cs) }
+linked_by cs n = record n { link = rising (λ k. mem k cs) }
 
 abbrev pub said : Said → Item → Said
-said s (header n v) =
-    record { steps = n; signals = v; starts = s.starts; effects = s.effects; needs = s.needs; pairs = s.pairs; linked = s.linked; named = s.named }
-said s (start w) =
-    record { steps = s.steps; signals = s.signals; starts = s.starts ++ w ∷ []; effects = s.effects; needs = s.needs; pairs = s.pairs; linked = s.linked; named = s.named }
-said s (effect e) =
-    record { steps = s.steps; signals = s.signals; starts = s.starts; effects = s.effects ++ e ∷ []; needs = s.needs; pairs = s.pairs; linked = s.linked; named = s.named }
-said s (need w x a b) =
-    record { steps = s.steps; signals = s.signals; starts = s.starts; effects = s.effects; needs = s.needs ++ open_need w x a b ∷ []; pairs = s.pairs; linked = s.linked; named = s.named }
-said s (pair e l) =
-    record { steps = s.steps; signals = s.signals; starts = s.starts; effects = s.effects; needs = s.needs; pairs = s.pairs ++ record { earlier = e; later = l } ∷ []; linked = s.linked; named = s.named }
+said s (header n v) = record s { steps = n; signals = v }
+said s (start w) = record s { starts = s.starts ++ w ∷ [] }
+said s (effect e) = record s { effects = s.effects ++ e ∷ [] }
+said s (need w x a b) = record s { needs = s.needs ++ open_need w x a b ∷ [] }
+said s (pair e l) = record s { pairs = s.pairs ++ record { earlier = e; later = l } ∷ [] }
 said s (link n cs) =
-    record { steps = s.steps; signals = s.signals; starts = s.starts; effects = s.effects; needs = slice_set s.needs n (linked_by cs (slice_index_or s.needs n no_need)); pairs = s.pairs; linked = n ∷ s.linked; named = s.named }
-said s (name w bs) =
-    record { steps = s.steps; signals = s.signals; starts = s.starts; effects = s.effects; needs = s.needs; pairs = s.pairs; linked = s.linked; named = w ∷ s.named }
+    record s { needs = slice_set s.needs n (linked_by cs (slice_index_or s.needs n no_need)); linked = n ∷ s.linked }
+said s (name w bs) = record s { named = w ∷ s.named }
 said s end = s
 
 abbrev pub said_by : List Item → Said

@@ -1,10 +1,10 @@
 -- What a `Record` of the code stands for.
---   item_of r     the record as a value
---   shown r       the same of what the record reader answers, with the place after the record
---   part_shown r  the place and the bytes of a part
---   owned_shown r the same, behind the number of the step or the need whose it is
---   PlacedAt p r  the parts of the record r at the place p begin four bytes on from its mark
---   Placed p r    the same of what the record reader answers
+--   item_of r      the record as a value
+--   shown r        the same of what the record reader answers, with the place after the record
+--   part_shown r   the place and the bytes of a part
+--   owned_shown r  the number of the step or the need whose the part is, and then the same
+--   PlacedAt p r   the parts of the record r at the place p begin four bytes on from its mark
+--   Placed p r     the same of what the record reader answers
 use Rattle.std.specs.Prelude.{◌≡◌, ℕ, ◌+◌, List, Ok, Err, Result}
 use Rattle.faults.specs.declared.fault.ReaderFault.{ReaderFault}
 use Rattle.records.specs.declared.record.Part.{Part}
