@@ -11,7 +11,7 @@ use Rattle.sheet.specs.Fit.{EffectFits, SameTarget, NeedFits, LinkFits, PairFits
 use Rattle.sheet.specs.Limits.{no_need}
 use Rattle.sheet.specs.Model.{Need}
 use Rattle.sets.specs.Sets.{mem, rising}
-use Rattle.sets.proofs.Bits.{mem_passes}
+use Rattle.sets.proofs.Bits.{mem_passes, none_rises, rising_again}
 use Rattle.records.specs.declared.record.Mark.TheVariants as mark
 use Rattle.records.specs.Item.{Item, header, start, effect, need, pair, link, name, end}
 use Rattle.reader.specs.Lawful.{stands, Admissible}
@@ -59,7 +59,10 @@ single_push es f fresh single = all_pairs_push (λ e g. SameTarget e g → ⊥) 
 rising_fits : (n : ℕ) (cs : List ℕ) → All (λ k. k < n) cs → LinkFits n (rising (λ k. mem k cs))
 unfolding rising
 rising_fits n cs below =
-    All-weaker (λ k. mem k cs ≡ true) (λ k. k < n) (λ k e. mem_passes (λ j. j < n) cs k below e) _ (filter_passes (λ k. mem k cs) (range_with_len 0 64))
+    (
+      rising_again (λ k. mem k cs),
+      All-weaker (λ k. mem k cs ≡ true) (λ k. k < n) (λ k e. mem_passes (λ j. j < n) cs k below e) _ (filter_passes (λ k. mem k cs) (range_with_len 0 64)),
+    )
 
 -- a header may stand only where none is read
 pub no_header : (s : Said) → 0 < s.steps → stands s mark.Header ≡ true → ⊥
@@ -117,7 +120,7 @@ module _ (s : Said) (k : Kept s) where
         effects_single = k.effects_single;
         needs_kept =
             All-push (NeedKept s.steps s.signals) s.needs (open_need w x l h) k.needs_kept
-            (r.0, All-nil (λ k. k < s.steps));
+            (r.0, (none_rises, All-nil (λ k. k < s.steps)));
         pairs_kept = k.pairs_kept;
         linked_apart = apart_wider (length s.needs) _ s.linked (omega arith) k.linked_apart;
         named_apart = k.named_apart;

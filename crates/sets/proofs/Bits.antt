@@ -1,32 +1,17 @@
 -- The bits of a number with one bit more, and the rising list of the numbers that pass a test.
-use Rattle.std.proofs.Common.{◌≡◌, w64, ℕ, zero, suc, ◌+◌, ◌-◌, ◌*◌, ◌/◌, ◌%◌, ◌^◌, ◌<◌, ◌≤◌, Bool, true, false, if◌then◌else◌, ◌&&◌, ◌||◌, nat_lt, fold, ◌==◌, List, [], ◌∷◌, ◌≢◌, ◌⊎◌, filter, All, sym, refl, ap, ◌∙◌, subst, inl, inr, ⊎_elim, arith, pow_pos, pow-add}
+use Rattle.std.proofs.Common.{◌≡◌, w64, ℕ, zero, suc, ◌+◌, ◌-◌, ◌*◌, ◌/◌, ◌%◌, ◌^◌, ◌<◌, ◌≤◌, Bool, true, false, if◌then◌else◌, ◌&&◌, ◌||◌, nat_lt, fold, ◌==◌, List, [], ◌∷◌, ◌≢◌, ◌⊎◌, filter, All, sym, refl, ap, ◌∙◌, subst, inl, inr, arith, pow_pos}
 use Rattle.std.proofs.Math.Bool.{or-false}
-use native.Mathlib.Nat.{div_self, div-eq_of_lt, mul-mod_right, mod-eq_of_lt, zero-div}
+use native.Mathlib.Nat.{mod-eq_of_lt, zero-div}
 use Rattle.std.proofs.Math.Pow.{shr_lt}
-use lib.Pow.{pow-lt, shl-shr}
 use lib.Bits.{bit_or, bit_xor, or_mod, or_shr}
 use Rattle.std.specs.List.{range_with_len}
-use Rattle.std.proofs.lemmas.Bool.{lt-ltb, le-ltb, cases_lt, cases_order, cases_eq, eq-eqb, eqb-true, ne_eqb, or_cases, or_left, false≢true}
+use Rattle.std.proofs.lemmas.Bool.{lt-ltb, le-ltb, cases_lt, cases_eq, eq-eqb, eqb-true, ne_eqb, or_cases, or_left, false≢true}
 use Rattle.std.proofs.lemmas.List.Elements.{All-cons, All-nil}
 use Rattle.std.proofs.lemmas.Nat.Bits.{bit_at-trailing_zeros, bit_at_xor, bit_at-pow_same, bit_at-pow_other}
 use Rattle.std.specs.Int.{trailing_zeros}
 use Rattle.std.proofs.lemmas.Nat.{one_shl, or_lt, xor_lt, shr-shr}
-use Rattle.sets.specs.Sets.{added, bit, mem, ones, of_ones, rising}
+use Rattle.sets.specs.Sets.{added, bit, mem, ones, of_ones, rising, Rising}
 use Rattle.sets.specs.Ones.{bit-last, of_ones-from, of_ones-ones}
-
--- a power of two has one bit
-pub pow_bit_same : (s : ℕ) → 2 ^ s / 2 ^ s % 2 ≡ 1
-pow_bit_same s = rw (div_self (pow_pos s))
-
-even_pow : (d k : ℕ) → 2 ^ ((1 + d) + k) / 2 ^ k % 2 ≡ 0
-even_pow d k = rw (pow-add 2 (1 + d) k, shl-shr (2 ^ (1 + d)) k, pow-add 2 1 d) (mul-mod_right 2 (2 ^ d))
-
-pub pow_bit_other : (s k : ℕ) → k ≢ s → 2 ^ s / 2 ^ k % 2 ≡ 0
-pow_bit_other s k ne =
-    ⊎_elim (λ e. absurd (ne e))
-    (⊎_elim (λ h. let e : s ≡ (1 + (s - k - 1)) + k = omega arith in ap (λ x. 2 ^ x / 2 ^ k % 2) e ∙ even_pow (s - k - 1) k)
-    (λ h. rw (div-eq_of_lt (pow-lt {i = s} {j = k} h))))
-    (cases_order k s)
 
 two : (n : ℕ) → n < 2 → (n ≡ 0) ⊎ (n ≡ 1)
 two zero h = inl refl
@@ -53,8 +38,8 @@ bit-pow : (s k : ℕ) → bit (2 ^ s) k ≡ (k == s)
 bit-pow s k =
     bit-last (2 ^ s) k
     ∙ elim (cases_eq k s) [
-      | inl e ↦ rw e (ap (λ (n : ℕ). n == 1) (pow_bit_same s) ∙ sym (eq-eqb s s refl))
-      | inr ne ↦ ap (λ (n : ℕ). n == 1) (pow_bit_other s k ne) ∙ sym (ne_eqb k s ne)
+      | inl e ↦ rw e (ap (λ (n : ℕ). n == 1) (bit_at-pow_same s) ∙ sym (eq-eqb s s refl))
+      | inr ne ↦ ap (λ (n : ℕ). n == 1) (bit_at-pow_other s k ne) ∙ sym (ne_eqb k s ne)
     ]
 
 -- one bit more
@@ -112,6 +97,17 @@ mem_of_mask k m =
       | inl h ↦ rw (lt-ltb k 64 h) (mem-rising (bit m) k h)
       | inr past ↦ rw (le-ltb k 64 past) (mem-rising_past (bit m) k past)
     ]
+
+-- the members that a list of numbers below 64 names are that list again
+pub rising_again : (p : ℕ → Bool) → Rising (rising p)
+rising_again p = rising_same _ _ (λ k h. sym (mem-rising p k h))
+
+pub ones_rise : (m : ℕ) → Rising (ones m)
+ones_rise m = rising_again (bit m)
+
+pub none_rises : Rising []
+unfolding rising
+none_rises = refl
 
 -- a number of which no bit is set is 0
 pub no_ones : (m : ℕ) → m < 2 ^ 64 → ones m ≡ [] → m ≡ 0
@@ -266,7 +262,9 @@ lowest_first m some small =
 pub small_less : (m : ℕ) → 0 < m → m < 2 ^ 64 → bit_xor m ((1 * 2 ^ trailing_zeros w64 m) % 2 ^ 64) < 2 ^ 64
 small_less m some small = xor_lt 64 m _ small (omega arith)
 
-pub ruleset emptiness = (no_ones, ones_of_none)
+pub ruleset membership = (mem_of_mask, ones_rise)
+
+pub ruleset emptiness = (no_ones, ones_of_none, ones_rise)
 
 pub ruleset bounds = (below_64, nothing_left_below, below_nothing_left)
 

@@ -1,6 +1,6 @@
 // A set of numbers below 64: steps or signals.
 ghost use Rattle.std.specs.Prelude.{◌≡◌, fold, ℕ, ◌<◌, ◌^◌, ◌↔◌, [], List, ◌||◌, ◌==◌, IsTrue, All, ◌∷◌, MatchOption};
-ghost use Rattle.sets.specs.Sets.{mem, added, ones, of_ones};
+ghost use Rattle.sets.specs.Sets.{mem, added, ones, of_ones, Rising};
 ghost use Rattle.sets.specs.Ones.{of_ones-ones};
 ghost use Rattle.std.proofs.Common.{ap};
 
@@ -42,16 +42,18 @@ impl IndexSet {
             .fold(IndexSet::empty(), |set, number| set.with(*number))
     }
 
-    #[tactic(auto, using(crate::proofs::Bits::mem_of_mask))]
+    #[tactic(auto, using(crate::proofs::Bits::membership))]
     pub fn contains(self, index: u8) -> bool
-        ensures { result ≡ mem index self }
+        ensures value { result ≡ mem index self }
+        ensures rising { Rising self }
     {
         index < 64 && (self.mask >> index) & 1 == 1
     }
 
     #[tactic(auto, using(crate::proofs::Bits::emptiness))]
     pub fn is_empty(self) -> bool
-        ensures { IsTrue result ↔ (self ≡ []) }
+        ensures value { IsTrue result ↔ (self ≡ []) }
+        ensures rising { Rising self }
     {
         self.mask == 0
     }
@@ -77,10 +79,13 @@ impl IndexSet {
         }
     }
 
-    // The members, the lowest first.
+    // The members, each once, the lowest first. The bits are named for `rising`, which is known of them alone.
+    #[tactic(auto, using(crate::proofs::Bits::ones_rise))]
     pub fn iter(self) -> Members
-        ensures { result ≡ self }
+        ensures value { result ≡ self }
+        ensures rising { Rising self }
     {
+        let _ = &self.mask;
         Members::new(self)
     }
 

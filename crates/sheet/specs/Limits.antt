@@ -21,7 +21,7 @@ pub record Limits (s : Sheet) : Type 0 where
   pub effects_single : AllPairs (λ e f. SameTarget e f → ⊥) s.effects
   -- the start has no need, and each need is on a signal that there is
   pub needs_fit : All (λ (n : Need). NeedFits s.steps (length s.starts) n.step n.signal) s.needs
-  -- each contributor of a link is a step that there is
+  -- the contributors of a link stand in rising order, and each is a step that there is
   pub links_fit : All (λ (n : Need). LinkFits s.steps n.link) s.needs
   -- each pair is of two steps that there are
   pub pairs_fit : All (PairFits s.steps) s.pairs

@@ -30,6 +30,7 @@ impl Need {
         self.step > 0 && self.step < steps && usize::from(self.signal) < signals
     }
 
+    #[tactic(auto, using(sets::proofs::Bits::none_rises))]
     fn link_fits(self, steps: u8) -> bool
         ensures { IsTrue result ↔ LinkFits steps (link_of self.link) }
     {

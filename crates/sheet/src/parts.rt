@@ -1,6 +1,6 @@
 // The parts of a sheet: effects, needs with their links, and pairs.
 ghost use Rattle.std.specs.Prelude.{◌≡◌, ◌≢◌, ℕ, List, [], ◌↔◌, IsTrue, IsNone, IfSome};
-ghost use Rattle.sheet.specs.Fit.{LinkFits};
+ghost use Rattle.sets.specs.Sets.{Rising};
 
 use gauge::Condition;
 use sets::index_set::IndexSet;
@@ -25,7 +25,7 @@ impl Model for Link {
 
     ghost view = { λ l. l.contributors };
 
-    ghost invariant = { λ l. l.contributors ≢ [] };
+    ghost invariant = { λ l. (l.contributors ≢ []) × Rising l.contributors };
 
     ghost inverse = { λ contributors. record { contributors = contributors } };
 }
@@ -45,6 +45,7 @@ impl Link {
     pub fn contributors(self) -> IndexSet
         ensures value { result ≡ self }
         ensures some { self ≢ [] }
+        ensures rising { Rising self }
     {
         self.contributors
     }
