@@ -17,6 +17,7 @@ pub fn first_difference<P: Plant>(plant: &P, words: &[u16]) -> Option<u16>
     ensures value { result ≡ first_difference (P.meaning plant.now) words.now }
     ensures law { DifferenceExactly }
 {
+    // no `find`: it would hand out the place and the word, and the place would be cast twice
     for (signal, word) in words.iter().enumerate() {
         let signal = signal as u16;
         if !holds(plant, signal, *word) {

@@ -1,5 +1,5 @@
 // A rack: up to 128 signals, each with a word of 16 bits.
-ghost use Rattle.std.specs.Prelude.{◌≡◌, min};
+ghost use Rattle.std.specs.Prelude.{◌≡◌, ◌≤◌, length, min};
 ghost use Rattle.plant.specs.Meaning.{Sound, plant_of_words, zeros};
 
 use crate::checks::{check_signal, check_word};
@@ -7,10 +7,11 @@ use crate::plant::Plant;
 use arrayvec::ArrayVec;
 use faults::fault::PlantFault;
 
-// The law of a plant rests on `sound`: the model of an ArrayVec bounds neither its length nor its numbers.
+// By the bounds that the model of an ArrayVec does not say: no more words than 128, each of 16 bits.
 #[derive(Drop)]
 pub struct Rack {
     words: ArrayVec<u16, 128>,
+    ghost few: { length words.items ≤ 128 },
     ghost sound: { Sound (plant_of_words words.items) },
 }
 

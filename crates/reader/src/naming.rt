@@ -16,7 +16,7 @@ fn or_newer<'a>(found: Option<Part<'a>>, candidate: Record<'a>, step: u16) -> Op
         → part_of result ≡ name_in (item_of candidate.entry ∷ past) step }
 {
     match candidate {
-        Record::Name { step: owner, name } if u16::from(owner) == step => Some(name),
+        Record::Name { step: named, name } if u16::from(named) == step => Some(name),
         _ => found,
     }
 }

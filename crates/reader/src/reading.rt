@@ -1,5 +1,6 @@
 // Reading a sheet file into a sheet.
-ghost use Rattle.std.specs.Prelude.{◌≡◌};
+ghost use Rattle.std.specs.Prelude.{◌≡◌, IfOk};
+ghost use Rattle.sheet.specs.Limits.{Limits};
 ghost use Rattle.reader.specs.declared.reading.ReadError.TheVariants.{Fault, Memory};
 ghost use Rattle.reader.specs.Law.{ReadsExactly, PlacesFit};
 ghost use Rattle.reader.specs.Results.{ReadAs};
@@ -38,6 +39,7 @@ impl From<AllocError> for ReadError {
 // up to the one that found no room.
 pub fn read(heap: Global, file: &[u8]) -> Result<Sheet, ReadError>
     ensures value { ReadAs file.now result }
+    ensures limits { IfOk result Limits }
     ensures exact { ReadsExactly }
     ensures places { PlacesFit }
 {

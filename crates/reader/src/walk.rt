@@ -33,6 +33,7 @@ impl Ledger {
             return Err(cursor.fault(Cause::Mark));
         }
         let (record, end) = cursor.body(mark)?;
+        // with `map_err` the proof did not close
         match self.admit(record) {
             Ok(()) => Ok((record, end)),
             Err(cause) => Err(cursor.fault(cause)),

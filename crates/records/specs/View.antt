@@ -1,10 +1,10 @@
 -- What a `Record` of the code stands for.
---   item_of r      the record as a value
---   shown r        the same of what the record reader answers, with the place after the record
---   part_shown r   the place and the bytes of a part
---   owned_shown r  the number of the step or the need whose the part is, and then the same
---   PlacedAt p r   the parts of the record r at the place p begin four bytes on from its mark
---   Placed p r     the same of what the record reader answers
+--   item_of r         the record as a value
+--   shown r           the same of what the record reader answers, with the place after the record
+--   part_shown r      the place and the bytes of a part
+--   numbered_shown r  the number of the step or the need whose the part is, and then the same
+--   PlacedAt p r      the parts of the record r at the place p begin four bytes on from its mark
+--   Placed p r        the same of what the record reader answers
 use Rattle.std.specs.Prelude.{◌≡◌, ℕ, ◌+◌, List, Ok, Err, Result}
 use Rattle.faults.specs.declared.fault.ReaderFault.{ReaderFault}
 use Rattle.records.specs.declared.record.Part.{Part}
@@ -30,9 +30,9 @@ abbrev pub part_shown : Result Part ReaderFault → Result (ℕ × List ℕ) Rea
 part_shown (Ok x) = Ok (x.place, x.bytes.now)
 part_shown (Err f) = Err f
 
-abbrev pub owned_shown : Result (ℕ × Part) ReaderFault → Result (ℕ × (ℕ × List ℕ)) ReaderFault
-owned_shown (Ok x) = Ok (x.0, (x.1.place, x.1.bytes.now))
-owned_shown (Err f) = Err f
+abbrev pub numbered_shown : Result (ℕ × Part) ReaderFault → Result (ℕ × (ℕ × List ℕ)) ReaderFault
+numbered_shown (Ok x) = Ok (x.0, (x.1.place, x.1.bytes.now))
+numbered_shown (Err f) = Err f
 
 abbrev pub PlacedAt : ℕ → Record → Type 0
 PlacedAt p (Header steps signals) = Unit {0}

@@ -3,7 +3,7 @@ ghost use Rattle.std.specs.Prelude.{◌≡◌, ℕ, ◌+◌, ◌^◌, ◌<◌, �
 ghost use Rattle.records.specs.declared.record.Mark.TheVariants as mark;
 ghost use Rattle.records.specs.Standing.{RecordsExactly};
 ghost use Rattle.records.specs.Shape.{fault, on_ok, mark_at, byte_at, part, part_at, whole, body_at, record_at};
-ghost use Rattle.records.specs.View.{shown, part_shown, owned_shown, Placed};
+ghost use Rattle.records.specs.View.{shown, part_shown, numbered_shown, Placed};
 
 use crate::record::{Mark, Part, Record};
 use faults::fault::{Cause, ReaderFault};
@@ -34,6 +34,7 @@ impl<'a> Cursor<'a> {
         let Some([first, second, ..]) = self.file.get(usize::from(self.at)..) else {
             return Err(self.fault(Cause::CutShort));
         };
+        // with `map_err`, or a lemma on it, the proof did not close
         match Mark::try_from([*first, *second]) {
             Ok(mark) => Ok(mark),
             Err(cause) => Err(self.fault(cause)),
@@ -48,10 +49,11 @@ impl<'a> Cursor<'a> {
         ensures each { IfOk result (λ bytes. (k : ℕ) → k < N → slice_index bytes k ≡ byte_at self.now.file.now (self.now.at + 2 + k)) }
     {
         let start = usize::from(self.at) + 2;
-        match self.file.get(start..start + N) {
-            Some(bytes) => Ok(<[u8; N]>::try_from(bytes).unwrap()),
-            None => Err(self.fault(Cause::CutShort)),
-        }
+        let bytes = self
+            .file
+            .get(start..start + N)
+            .ok_or(self.fault(Cause::CutShort))?;
+        Ok(<[u8; N]>::try_from(bytes).unwrap())
     }
 
     fn header(&self) -> Result<(Record<'a>, usize), ReaderFault>
@@ -111,23 +113,24 @@ impl<'a> Cursor<'a> {
         ensures { part_shown result ≡ whole self.now.file.now self.now.at (self.now.at + 4 + length) (Ok (self.now.at + 4, part self.now.file.now (self.now.at + 4) length)) }
     {
         let place = usize::from(self.at) + 4;
-        match self.file.get(place..place + usize::from(length)) {
-            Some(bytes) => Ok(Part { place, bytes }),
-            None => Err(self.fault(Cause::CutShort)),
-        }
+        let bytes = self
+            .file
+            .get(place..place + usize::from(length))
+            .ok_or(self.fault(Cause::CutShort))?;
+        Ok(Part { place, bytes })
     }
 
-    // A part of 1 to `most` bytes, with the number of the step or the need whose it is. Behind the mark stand that number and
+    // A part of 1 to `most` bytes, and the number of the step or the need whose it is. Behind the mark stand that number and
     // the length.
-    fn owned_part(&self, most: u8) -> Result<(u8, Part<'a>), ReaderFault>
-        ensures { owned_shown result ≡ on_ok (part_at self.now.file.now self.now.at most) (λ x. Ok (byte_at self.now.file.now (self.now.at + 2), x)) }
+    fn numbered_part(&self, most: u8) -> Result<(u8, Part<'a>), ReaderFault>
+        ensures { numbered_shown result ≡ on_ok (part_at self.now.file.now self.now.at most) (λ x. Ok (byte_at self.now.file.now (self.now.at + 2), x)) }
     {
-        let [owner, length] = self.fields::<2>()?;
+        let [number, length] = self.fields::<2>()?;
         if !(1..=most).contains(&length) {
             return Err(self.fault(Cause::OffLimits));
         }
         let part = self.part(length)?;
-        Ok((owner, part))
+        Ok((number, part))
     }
 
     // This and `name` are two functions: one that is passed the case would need a closure with clauses, and save no line.
@@ -135,7 +138,7 @@ impl<'a> Cursor<'a> {
         ensures value { shown result ≡ body_at self.now.file.now self.now.at mark.Link }
         ensures places { Placed self.now.at result }
     {
-        let (need, contributors) = self.owned_part(64)?;
+        let (need, contributors) = self.numbered_part(64)?;
         let end = contributors.place + contributors.bytes.len();
         Ok((Record::Link { need, contributors }, end))
     }
@@ -144,13 +147,13 @@ impl<'a> Cursor<'a> {
         ensures value { shown result ≡ body_at self.now.file.now self.now.at mark.Name }
         ensures places { Placed self.now.at result }
     {
-        let (step, name) = self.owned_part(24)?;
+        let (step, name) = self.numbered_part(24)?;
         let end = name.place + name.bytes.len();
         Ok((Record::Name { step, name }, end))
     }
 
-    // The record here, which begins with this mark, and the place after it. `places` is no part of the record's value, which
-    // knows no place, so each call that hands the record on says it.
+    // The record here, which begins with this mark, and the place after it: a pair, as every caller takes it apart at once.
+    // `places` is no part of the record's value, which knows no place, so each call that hands the record on says it.
     pub fn body(&self, mark: Mark) -> Result<(Record<'a>, usize), ReaderFault>
         ensures value { shown result ≡ body_at self.now.file.now self.now.at mark }
         ensures places { Placed self.now.at result }

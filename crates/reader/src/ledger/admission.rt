@@ -49,21 +49,19 @@ impl Ledger {
         }
     }
 
-    fn admit_header(&mut self, steps: u8, signals: u8) -> Result<(), Cause>
+    fn note_header(&mut self, steps: u8, signals: u8)
         requires { (steps ≤ 64) × (signals ≤ 64) }
-        ensures { Admits self.old (item.header steps signals) result self.new }
+        ensures { (s : Said) → Shows self.old s → Shows self.new (said s (item.header steps signals)) }
     {
         self.steps = steps;
         self.signals = signals;
-        Ok(())
     }
 
-    fn admit_start(&mut self) -> Result<(), Cause>
+    fn note_start(&mut self)
         requires { self.old.starts < self.old.signals }
-        ensures { (word : ℕ) → Admits self.old (item.start word) result self.new }
+        ensures { (s : Said) (word : ℕ) → Shows self.old s → Shows self.new (said s (item.start word)) }
     {
         self.starts += 1;
-        Ok(())
     }
 
     fn admit_effect(&mut self, effect: Effect) -> Result<(), Cause>
@@ -157,8 +155,14 @@ impl Ledger {
     {
         // a match and no table of functions, as each case has fields of its own
         match candidate {
-            Record::Header { steps, signals } => self.admit_header(steps, signals),
-            Record::Start { .. } => self.admit_start(),
+            Record::Header { steps, signals } => {
+                self.note_header(steps, signals);
+                Ok(())
+            }
+            Record::Start { .. } => {
+                self.note_start();
+                Ok(())
+            }
             Record::Effect { effect } => self.admit_effect(effect),
             Record::Need { step, signal, .. } => self.admit_need(step, signal),
             Record::Pair { earlier, later } => self.admit_pair(earlier, later),

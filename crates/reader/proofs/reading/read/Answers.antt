@@ -16,6 +16,7 @@ returns-in_err-record c =
     rw (p.1, p.2)
     (record {
       value = ap reading (sym i.2) ∙ reading_by c.loop-parts.walk.file.now (faulty _) (c.in_err-record.ensures i.0 i.1 i.3);
+      limits = tt;
       exact = reads_exactly;
       places = places_fit;
     })
@@ -36,6 +37,7 @@ returns-in_err-add c =
         reached = ap (λ (f : List ℕ). walk f (suc i.1)) (sym (step.0 ∙ i.2)) ∙ step.1.reached;
         adds = c.in_err-add.ensures;
       };
+      limits = tt;
       exact = reads_exactly;
       places = places_fit;
     })
@@ -69,6 +71,7 @@ returns c =
     let made = subst (λ (o : Option Sheet). IfSome o (λ s. s ≡ model_of c.loop-parts.parts)) c.unwrap.ensures c.new.ensures.value in
     record {
       value = ap reading (sym i.2) ∙ reading_by w.file.now (ended i.0) end.0 ∙ ap Ok (sym (made ∙ i.4));
+      limits = subst Limits (sym (made ∙ i.4)) (limits_at_end w.file.now i.0 end.0);
       exact = reads_exactly;
       places = places_fit;
     }
