@@ -1,5 +1,5 @@
 -- One record more of a walk, and how far it leads.
-use Rattle.std.proofs.Common.{◌≡◌, ℕ, suc, ◌<◌, ◌≤◌, true, false, List, [], ◌∷◌, length, Some, Ok, Option, refl, sym, ap, ◌∙◌, subst, arith}
+use Rattle.std.proofs.Common.{◌≡◌, ℕ, suc, ◌-◌, ◌<◌, ◌≤◌, true, false, List, [], ◌∷◌, length, Some, Ok, Option, refl, sym, ap, ◌∙◌, subst, arith}
 use Rattle.records.specs.declared.record.Record.{Record}
 use Rattle.records.specs.declared.record.Record.TheVariants.{Header, Start, Effect, Need, Pair, Link, Name, End}
 use Rattle.records.specs.Item.{Item, bytes, is_end}
@@ -82,7 +82,10 @@ limits_at_end file past e =
 pub onward_at : (w v : Walk) (past : List Item) (n : ℕ) (o was : Option Record) → was ≡ o → Onward w past n (Ok was) v → Onward w past n (Ok o) v
 onward_at w v past n o was e = subst (λ (y : Option Record). Onward w past n (Ok y) v) e
 
--- a step leads further into the file
-pub nearer : (w v : Walk) (past : List Item) (n : ℕ) (r : Record) → After w past n → Onward w past n (Ok (Some r)) v → (w.at < v.at) × (v.at ≤ length w.file.now)
-nearer w v past n r here step =
-    further w.file.now n past w.at (item_of r) v.at here.reached (ap (λ (f : List ℕ). walk f (suc n)) (sym step.0) ∙ step.1.reached)
+-- a step leaves less of the file
+pub shorter : (file : List ℕ) (w v : Walk) (past : List Item) (n : ℕ) (was : Option Record) (r : Record) → w.file.now ≡ file → After w past n → was ≡ Some r
+    → Onward w past n (Ok was) v → length file - v.at < length file - w.at
+shorter file w v past n was r same here is onward =
+    let step = onward_at w v past n (Some r) was is onward in
+    let on = further w.file.now n past w.at (item_of r) v.at here.reached (ap (λ (f : List ℕ). walk f (suc n)) (sym step.0) ∙ step.1.reached) in
+    omega (arith, on, ap length same)

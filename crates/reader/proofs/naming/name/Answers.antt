@@ -4,7 +4,7 @@ use Rattle.std.proofs.lemmas.Bool.{cond-true, cond-false, lt-ltb, le-ltb}
 use Rattle.records.specs.View.{item_of, PlacedAt}
 use Rattle.reader.specs.Reading.{naming, ended, faulty}
 use Rattle.reader.specs.Said.{said_by}
-use Rattle.reader.proofs.Advancing.{naming_by, nearer, onward_at}
+use Rattle.reader.proofs.Advancing.{naming_by, onward_at, shorter}
 use Rattle.reader.proofs.Laws.{faults_first, names_exactly}
 use Rattle.reader.proofs.Walking.{walk_going}
 use Rattle.reader.proofs.naming.name.Goals as goal
@@ -24,10 +24,7 @@ returns-in_err-record c =
 pub loop-record-smaller : goal.loop-record-smaller
 loop-record-smaller c =
     let i = c.loop-record.invariant in
-    let walk = c.loop-record.walk in
-    let step = onward_at walk c.next.new.self i.0 i.1 (Some c.in-Some.record) _ c.in-Some.is (c.in_ok-record.ensures i.0 i.1 i.3) in
-    let on = nearer walk c.next.new.self i.0 i.1 c.in-Some.record i.3 step in
-    omega (arith, on, ap length i.2)
+    shorter _ c.loop-record.walk c.next.new.self i.0 i.1 _ c.in-Some.record i.2 i.3 c.in-Some.is (c.in_ok-record.ensures i.0 i.1 i.3)
 
 pub loop-record-preserved : goal.loop-record-preserved
 loop-record-preserved c =

@@ -5,7 +5,7 @@ use Rattle.sheet.specs.Model.{Sheet, model_of}
 use Rattle.records.specs.View.{item_of}
 use Rattle.reader.specs.Reading.{reading, walk, ended, faulty}
 use Rattle.reader.specs.Said.{said_by}
-use Rattle.reader.proofs.Advancing.{reading_by, nearer, limits_at_end, onward_at}
+use Rattle.reader.proofs.Advancing.{reading_by, limits_at_end, onward_at, shorter}
 use Rattle.reader.proofs.Laws.{reads_exactly, places_fit}
 use Rattle.reader.proofs.reading.read.Goals as goal
 
@@ -45,10 +45,7 @@ returns-in_err-add c =
 pub loop-parts-smaller : goal.loop-parts-smaller
 loop-parts-smaller c =
     let i = c.loop-parts.invariant in
-    let w = c.loop-parts.walk in
-    let step = onward_at w c.next.new.self i.0 i.1 (Some c.in-Some.record) _ c.in-Some.is (c.in_ok-record.ensures i.0 i.1 i.3) in
-    let on = nearer w c.next.new.self i.0 i.1 c.in-Some.record i.3 step in
-    omega (arith, on, ap length i.2)
+    shorter _ c.loop-parts.walk c.next.new.self i.0 i.1 _ c.in-Some.record i.2 i.3 c.in-Some.is (c.in_ok-record.ensures i.0 i.1 i.3)
 
 pub loop-parts-preserved : goal.loop-parts-preserved
 loop-parts-preserved c =
