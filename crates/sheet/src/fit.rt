@@ -57,12 +57,10 @@ fn is_new(effect: Effect, effects: &[Effect]) -> bool
 fn are_single(effects: &[Effect]) -> bool
     ensures { IsTrue result ↔ AllPairs (λ e f. SameTarget e f → ⊥) effects.now }
 {
-    for (k, effect) in effects.iter().enumerate() {
-        if !is_new(*effect, &effects[..k]) {
-            return false;
-        }
-    }
-    true
+    effects
+        .iter()
+        .enumerate()
+        .all(|(k, effect)| is_new(*effect, &effects[..k]))
 }
 
 impl Parts {
