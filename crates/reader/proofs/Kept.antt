@@ -58,11 +58,10 @@ single_push es f fresh single = all_pairs_push (λ e g. SameTarget e g → ⊥) 
 -- a link of steps that there are
 rising_fits : (n : ℕ) (cs : List ℕ) → All (λ k. k < n) cs → LinkFits n (rising (λ k. mem k cs))
 unfolding rising
-rising_fits n cs below =
-    (
-      rising_again (λ k. mem k cs),
-      All-weaker (λ k. mem k cs ≡ true) (λ k. k < n) (λ k e. mem_passes (λ j. j < n) cs k below e) _ (filter_passes (λ k. mem k cs) (range_with_len 0 64)),
-    )
+rising_fits n cs below = (
+  rising_again (λ k. mem k cs),
+  All-weaker (λ k. mem k cs ≡ true) (λ k. k < n) (λ k e. mem_passes (λ j. j < n) cs k below e) _ (filter_passes (λ k. mem k cs) (range_with_len 0 64)),
+)
 
 -- a header may stand only where none is read
 pub no_header : (s : Said) → 0 < s.steps → stands s mark.Header ≡ true → ⊥

@@ -46,7 +46,7 @@ pub(crate) fn add(parts: &mut Parts, candidate: Record) -> Result<(), AllocError
         Record::Pair { earlier, later } => parts.pairs.push(Pair { earlier, later })?,
         Record::Link { need, contributors } => {
             if let Some(need) = parts.needs.get_mut(usize::from(need)) {
-                need.link = Link::new(IndexSet::of(contributors.bytes));
+                need.link = Link::new(IndexSet::from(contributors.bytes));
             }
         }
         Record::Name { .. } | Record::End => {}

@@ -33,15 +33,6 @@ impl IndexSet {
         IndexSet { mask: 0 }
     }
 
-    // The set of these numbers, of which those past 63 do not count.
-    pub fn of(numbers: &[u8]) -> IndexSet
-        ensures { result ≡ fold added [] numbers.now }
-    {
-        numbers
-            .iter()
-            .fold(IndexSet::empty(), |set, number| set.with(*number))
-    }
-
     #[tactic(auto, using(crate::proofs::Bits::membership))]
     pub fn contains(self, index: u8) -> bool
         ensures value { result ≡ mem index self }
@@ -104,5 +95,16 @@ impl IndexSet {
                 mask: self.mask ^ 1 << lowest,
             },
         ))
+    }
+}
+
+// The set of these numbers, of which those past 63 do not count.
+impl<'a> From<&'a [u8]> for IndexSet {
+    ghost from_gives = { λ numbers r. r ≡ fold added [] numbers.now };
+
+    fn from(numbers: &'a [u8]) -> IndexSet {
+        numbers
+            .iter()
+            .fold(IndexSet::empty(), |set, number| set.with(*number))
     }
 }

@@ -3,7 +3,7 @@ use crate::index_set::IndexSet;
 
 #[test]
 fn members(rt: HostRuntime) {
-    let set = IndexSet::of(&[63, 0, 9, 64, 255, 9]);
+    let set = IndexSet::from([63u8, 0, 9, 64, 255, 9].as_slice());
     let mut members = set.iter();
     assert_eq!(rt; members.next(), Some(0));
     assert_eq!(rt; members.next(), Some(9));
@@ -13,5 +13,5 @@ fn members(rt: HostRuntime) {
     assert!(rt; !set.contains(64));
     assert!(rt; set.is_below(64));
     assert!(rt; !set.is_below(63));
-    assert!(rt; IndexSet::of(&[64]).is_empty());
+    assert!(rt; IndexSet::from([64u8].as_slice()).is_empty());
 }

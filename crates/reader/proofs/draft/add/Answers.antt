@@ -11,8 +11,8 @@ pub returns-in-Some : goal.returns-in-Some
 returns-in-Some c s was =
     let cs = c.in-Link.contributors.bytes.now in
     let item = c.in-Some.ensures.item in
-    let needs = needs_linked c.args.parts.now.needs.items c.from.result cs c.of.result item.3.0 c.in-Some.need.now item.3.1 c.new-need.result
-    c.of.ensures c.new-need.ensures.none c.new-need.ensures.value
+    let needs = needs_linked c.args.parts.now.needs.items c.from.result cs c.from-in-Some.result item.3.0 c.in-Some.need.now item.3.1 c.new-need.result
+    c.from-in-Some.ensures c.new-need.ensures.none c.new-need.ensures.value
     ∙ ap (λ (ns : List Need). slice_set ns c.from.result (linked_by cs (slice_index_or ns c.from.result no_need))) (ap (λ (t : Sheet). t.needs) was)
     ∙ ap (λ (n : ℕ). slice_set s.needs n (linked_by cs (slice_index_or s.needs n no_need))) c.from.ensures in
     (λ j. record {
