@@ -71,7 +71,7 @@ pub enum Layer {
     Report,
 }
 
-// By hand, since a derived `From` says nothing of the fault that `?` makes, and clauses name it.
+// By hand, as the next three: each says which case it makes, and a derived `From` says nothing of it.
 impl From<ReaderFault> for Fault {
     ghost from_gives = { λ e r. r ≡ Reader e };
 

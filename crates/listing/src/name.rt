@@ -1,5 +1,6 @@
 // The line of a step's name.
-ghost use Rattle.std.specs.Prelude.{◌≡◌, ◌++◌, string_bytes, OnOk};
+ghost use Rattle.std.specs.Prelude.{◌≡◌, OnOk};
+ghost use Rattle.listing.specs.Appending.{Appended};
 ghost use Rattle.std.specs.List.{flat_map};
 ghost use Rattle.listing.specs.Listing.{plain, shown_byte, name_line};
 
@@ -15,7 +16,7 @@ fn is_plain(byte: u8) -> bool
 // A name may hold any byte, and its line stays one line of ASCII.
 #[tactic(auto, using(std::proofs::lemmas::Fmt::hex_byte))]
 fn push_byte(text: &mut String, byte: u8) -> Result<(), AllocError>
-    ensures { OnOk result (string_bytes text.new ≡ string_bytes text.old ++ shown_byte byte) }
+    ensures { OnOk result (Appended text.old text.new (shown_byte byte)) }
 {
     if is_plain(byte) {
         text.push(char::from(byte))
@@ -25,7 +26,7 @@ fn push_byte(text: &mut String, byte: u8) -> Result<(), AllocError>
 }
 
 fn push_bytes(text: &mut String, name: &[u8]) -> Result<(), AllocError>
-    ensures { OnOk result (string_bytes text.new ≡ string_bytes text.old ++ flat_map shown_byte name.now) }
+    ensures { OnOk result (Appended text.old text.new (flat_map shown_byte name.now)) }
 {
     for byte in name {
         push_byte(text, *byte)?;
@@ -35,7 +36,7 @@ fn push_bytes(text: &mut String, name: &[u8]) -> Result<(), AllocError>
 
 // The name of a step, with the place of its first byte in the file.
 pub fn push_name(text: &mut String, step: u8, name: &Part) -> Result<(), AllocError>
-    ensures { OnOk result (string_bytes text.new ≡ string_bytes text.old ++ name_line step name.now.place name.now.bytes.now) }
+    ensures { OnOk result (Appended text.old text.new (name_line step name.now.place name.now.bytes.now)) }
 {
     let place = name.place;
     write!(text, "NAME step {step} at {place} ")?;

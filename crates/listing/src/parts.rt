@@ -1,5 +1,6 @@
 // The line of each part of a sheet.
-ghost use Rattle.std.specs.Prelude.{◌≡◌, ◌++◌, string_bytes, OnOk};
+ghost use Rattle.std.specs.Prelude.{OnOk};
+ghost use Rattle.listing.specs.Appending.{Appended};
 ghost use Rattle.sheet.specs.Model.{link_of, need_of};
 ghost use Rattle.listing.specs.Listing.{signal_line, effect_line, need_line, pair_line, spaced, link_text};
 
@@ -31,7 +32,7 @@ impl Line for Effect {
 }
 
 fn push_members(text: &mut String, set: IndexSet) -> Result<(), AllocError>
-    ensures { OnOk result (string_bytes text.new ≡ string_bytes text.old ++ spaced set) }
+    ensures { OnOk result (Appended text.old text.new (spaced set)) }
 {
     for k in set.iter() {
         write!(text, " {k}")?;
@@ -40,7 +41,7 @@ fn push_members(text: &mut String, set: IndexSet) -> Result<(), AllocError>
 }
 
 fn push_link(text: &mut String, link: Option<Link>) -> Result<(), AllocError>
-    ensures { OnOk result (string_bytes text.new ≡ string_bytes text.old ++ link_text (link_of link)) }
+    ensures { OnOk result (Appended text.old text.new (link_text (link_of link))) }
 {
     match link {
         Some(link) => push_members(text, link.contributors()),

@@ -1,5 +1,6 @@
 // The text of a sheet.
-ghost use Rattle.std.specs.Prelude.{◌≡◌, ◌++◌, string_bytes, OnOk};
+ghost use Rattle.std.specs.Prelude.{OnOk};
+ghost use Rattle.listing.specs.Appending.{Appended};
 ghost use Rattle.listing.specs.Listing.{sheet_lines};
 
 use crate::lines::push_lines;
@@ -8,7 +9,7 @@ use std::alloc::AllocError;
 
 // All lines of a sheet but those of names.
 pub fn push_sheet(text: &mut String, sheet: &Sheet) -> Result<(), AllocError>
-    ensures { OnOk result (string_bytes text.new ≡ string_bytes text.old ++ sheet_lines sheet.now) }
+    ensures { OnOk result (Appended text.old text.new (sheet_lines sheet.now)) }
 {
     let steps = sheet.steps();
     let signals = sheet.starts().len();

@@ -1,5 +1,6 @@
 // The text of a whole file.
-ghost use Rattle.std.specs.Prelude.{◌≡◌, ◌++◌, string_bytes, OnOk};
+ghost use Rattle.std.specs.Prelude.{OnOk};
+ghost use Rattle.listing.specs.Appending.{Appended};
 ghost use Rattle.reader.specs.Reading.{naming};
 ghost use Rattle.listing.specs.Whole.{name_text, names_from, ListedAs};
 
@@ -10,7 +11,7 @@ use std::alloc::{AllocError, Global};
 
 // The line of a step's name, if it has one.
 fn push_name_of(text: &mut String, file: &[u8], step: u8) -> Result<(), AllocError>
-    ensures { OnOk result (string_bytes text.new ≡ string_bytes text.old ++ name_text step (naming file.now step)) }
+    ensures { OnOk result (Appended text.old text.new (name_text step (naming file.now step))) }
 {
     match name(file, u16::from(step)) {
         Ok(Some(part)) => push_name(text, step, &part),
@@ -19,7 +20,7 @@ fn push_name_of(text: &mut String, file: &[u8], step: u8) -> Result<(), AllocErr
 }
 
 fn push_names(text: &mut String, file: &[u8], steps: u8) -> Result<(), AllocError>
-    ensures { OnOk result (string_bytes text.new ≡ string_bytes text.old ++ names_from file.now 0 steps) }
+    ensures { OnOk result (Appended text.old text.new (names_from file.now 0 steps)) }
 {
     for step in 0..steps {
         push_name_of(text, file, step)?;

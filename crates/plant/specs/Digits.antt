@@ -1,4 +1,8 @@
 -- The binary digits of a number, and of that number with one of them changed.
+--   length-digits, digit_at  how many there are, and the digit k
+--   digits_zero              those of 0
+--   digits_flip, panel_flip  those of a number of which one is changed
+--   panel_sound              a panel keeps the law of a plant
 use Rattle.std.specs.Prelude.{◌≡◌, ℕ, zero, suc, ◌+◌, ◌*◌, ◌/◌, ◌%◌, ◌^◌, ◌<◌, ◌≤◌, ◌≢◌, List, ◌∷◌, length, replicate, bit_xor, slice_index, slice_set, refl}
 use Rattle.std.proofs.Common.{sym, ap, ◌∙◌, arith, length-set, shr-shr, ext_get_or}
 use Rattle.std.proofs.lemmas.Nat.{one_shl}

@@ -18,7 +18,7 @@ pub enum ReadError {
     Memory,
 }
 
-// By hand, since the contract of `read` names the error that a `?` makes, and a derived conversion says nothing of it.
+// By hand, as the next: the contract of `read` names the error that a `?` makes, and a derived `From` says nothing of it.
 impl From<ReaderFault> for ReadError {
     ghost from_gives = { λ e r. r ≡ Fault e };
 

@@ -2,7 +2,8 @@
 use gauge::Condition;
 use sheet::parts::Effect;
 
-// The two letters that a record begins with say its kind.
+// The two letters that a record begins with say its kind. No `==` and no `Debug` here: nothing compares or prints these, and each
+// derive is proved anew.
 #[derive(Clone, Copy)]
 pub enum Mark {
     Header,

@@ -15,7 +15,8 @@ mod line;
 mod tests;
 mod wording;
 
-// Two functions and no trait over both, which would take more lines than these two.
+// Two functions and no trait over both, which would take more lines than these two. The buffer is the caller's: a report takes
+// no heap.
 pub fn report_verdict(verdict: Verdict, buffer: &mut [u8]) -> Result<usize, ReportFault>
     ensures value { result ≡ answer (verdict_line verdict) buffer.old }
     ensures after { buffer.new ≡ filled (verdict_line verdict) buffer.old }

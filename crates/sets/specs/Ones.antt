@@ -1,4 +1,7 @@
 -- A number below 2 ^ 64 is the one that has a one at the places at which it has them.
+--   bit-last      a place is tested by the last binary digit of what is left of the number there
+--   of_ones-from  what the places from a on give back
+--   of_ones-ones  what all places give back
 use Rattle.std.specs.Prelude.{◌≡◌, ℕ, zero, suc, ◌+◌, ◌*◌, ◌/◌, ◌%◌, ◌^◌, ◌<◌, filter, ◌==◌}
 use Rattle.std.specs.List.{range_with_len}
 use Rattle.std.proofs.Common.{ap, sym, ◌∙◌, inl, inr, arith, pow_pos, pow-add, div-one}
@@ -8,7 +11,6 @@ use Rattle.std.proofs.lemmas.Nat.{and_mask}
 use Rattle.std.proofs.lemmas.Bool.{cases_eq, eq-eqb, ne_eqb}
 use Rattle.sets.specs.Sets.{bit, ones, of_ones, rising}
 
--- the test of a place, by the last binary digit of what is left of the number there
 pub bit-last : (m k : ℕ) → bit m k ≡ (m / 2 ^ k % 2 == 1)
 bit-last m k = ap (λ (n : ℕ). n == 1) (and_mask (m / 2 ^ k) 1)
 

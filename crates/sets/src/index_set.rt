@@ -7,7 +7,8 @@ ghost use Rattle.std.proofs.Common.{ap};
 use crate::members::Members;
 use std::marker::Model;
 
-// Its bits are packed; a contract sees the rising list of its members.
+// Its bits are packed, so that it takes no heap and is copied as one number; a contract sees the rising list of its members.
+// A caller sees that list alone, so calls that ask of a set say by `rising` what every set's list is.
 #[derive(Clone, Copy)]
 pub struct IndexSet {
     mask: u64,

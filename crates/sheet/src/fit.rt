@@ -8,12 +8,12 @@ ghost use Rattle.sheet.specs.Model.{link_of, model_of};
 use crate::parts::{Effect, Need, Pair, Parts};
 
 impl Effect {
-    fn fits(self, steps: u8, signals: usize) -> bool
-        ensures { IsTrue result ↔ EffectFits steps signals self }
+    fn fits(self, parts: &Parts) -> bool
+        ensures { IsTrue result ↔ EffectFits parts.now.steps (vec_len parts.now.starts) self }
     {
         self.step > 0
-            && usize::from(self.step) + 1 < usize::from(steps)
-            && usize::from(self.signal) < signals
+            && usize::from(self.step) + 1 < usize::from(parts.steps)
+            && usize::from(self.signal) < parts.starts.len()
     }
 
     fn same_target(self, other: Effect) -> bool
@@ -24,10 +24,10 @@ impl Effect {
 }
 
 impl Need {
-    fn fits(self, steps: u8, signals: usize) -> bool
-        ensures { IsTrue result ↔ NeedFits steps signals self.step self.signal }
+    fn fits(self, parts: &Parts) -> bool
+        ensures { IsTrue result ↔ NeedFits parts.now.steps (vec_len parts.now.starts) self.step self.signal }
     {
-        self.step > 0 && self.step < steps && usize::from(self.signal) < signals
+        self.step > 0 && self.step < parts.steps && usize::from(self.signal) < parts.starts.len()
     }
 
     #[tactic(auto, using(sets::proofs::Bits::none_rises))]
@@ -78,18 +78,13 @@ impl Parts {
     fn effects_fit(&self) -> bool
         ensures { IsTrue result ↔ EffectsFit self.now }
     {
-        let signals = self.starts.len();
-        self.effects
-            .iter()
-            .all(|effect| effect.fits(self.steps, signals))
-            && are_single(&self.effects)
+        self.effects.iter().all(|effect| effect.fits(self)) && are_single(&self.effects)
     }
 
     fn needs_fit(&self) -> bool
         ensures { IsTrue result ↔ NeedsFit self.now }
     {
-        let signals = self.starts.len();
-        self.needs.iter().all(|need| need.fits(self.steps, signals))
+        self.needs.iter().all(|need| need.fits(self))
             && self.needs.iter().all(|need| need.link_fits(self.steps))
     }
 

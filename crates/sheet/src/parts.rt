@@ -6,7 +6,8 @@ use gauge::Condition;
 use sets::index_set::IndexSet;
 use std::marker::Model;
 
-// What a step does to a signal: it sets it to a word.
+// What a step does to a signal: it sets it to a word. These derive no `==` and no `Debug`, as nothing compares or prints them,
+// and each derive is proved anew.
 #[derive(Clone, Copy)]
 pub struct Effect {
     pub step: u8,
