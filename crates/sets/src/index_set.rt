@@ -8,7 +8,8 @@ use crate::members::Members;
 use std::marker::Model;
 
 // Its bits are packed, so that it takes no heap and is copied as one number; a contract sees the rising list of its members.
-// A caller sees that list alone, so calls that ask of a set say by `rising` what every set's list is.
+// A caller sees that list alone, so calls that ask of a set say by `rising` what every set's list is. No `==` and no `Debug`:
+// nothing compares or prints a set.
 #[derive(Clone, Copy)]
 pub struct IndexSet {
     mask: u64,
