@@ -1,10 +1,6 @@
 use Rattle.std.proofs.Common.{Err, sym, ap, ◌∙◌}
 use Rattle.std.proofs.lemmas.Result.{err_from_is_err_and}
-use Rattle.records.specs.declared.record.Mark.{Mark}
-use Rattle.reader.specs.Lawful.{stands_after}
-use Rattle.records.specs.View.{item_of}
 use Rattle.reader.proofs.Nexts.{shows_stands, no_mark, misplaced, no_body, refused, accepted}
-use Rattle.records.proofs.Bodies.{body_is, mark_inside}
 use Rattle.reader.proofs.ledger.Ledger.read_record.Goals as goal
 
 pub returns-in_err-mark-clause-value : goal.returns-in_err-mark-clause-value
@@ -24,17 +20,6 @@ returns-in_err-record-clause-value c s shows =
     rw (p.1, p.2)
     (no_body c.args.cursor.now.file.now s c.args.cursor.now.at c.in_ok-mark.mark c.in_ok-mark.ensures _
     (c.if-not-may_stand.ensures ∙ shows_stands c.args.self.now s c.in_ok-mark.mark shows) c.in_err-record.ensures.value)
-
-pub admit-requires : goal.admit-requires
-admit-requires c =
-    let body = body_is c.args.cursor.now.file.now c.args.cursor.now.at c.in_ok-mark.mark (item_of c.in_ok-record.record) c.in_ok-record.end
-    (mark_inside c.args.cursor.now.file.now c.args.cursor.now.at c.in_ok-mark.mark (sym c.in_ok-mark.ensures))
-    (sym c.in_ok-record.ensures.value) in
-    record {
-      formed = body.formed;
-      placed = ap (λ (m : Mark). stands_after c.args.self.now.steps c.args.self.now.signals c.args.self.now.starts m) body.marked
-          ∙ sym c.if-not-may_stand.ensures;
-    }
 
 pub returns-in-Err-clause-value : goal.returns-in-Err-clause-value
 returns-in-Err-clause-value c s shows =
