@@ -5,7 +5,7 @@
 --   signal_line i w   the line of signal i, which starts at the word w
 --   effect_line i e   the line of effect i
 --   spaced ks         numbers, each after a space
---   link_text ks      the contributors of a link, or the word for none, each after a space
+--   link_text l       the contributors of a link, or the word for no link, each after a space
 --   need_line i n     the line of need i
 --   pair_line i p     the line of pair i
 --   numbered f i xs   the lines of a list of parts by f, numbered from i
@@ -14,12 +14,13 @@
 --   plain b           the byte b of a name stands for itself: printable ASCII, and no backslash
 --   shown_byte b      the byte b of a name as it is shown: itself, or its two digits behind a backslash and an x
 --   name_line n p bs  the line of step n, whose name has the bytes bs and begins at place p of the file
-use Rattle.std.specs.Prelude.{ℕ, ◌+◌, ◌/◌, ◌%◌, Bool, if◌then◌else◌, not, ◌&&◌, List, [], ◌∷◌, ◌++◌, length, codes, decimal, ◌==◌, nat_le, nat_lt}
+use Rattle.std.specs.Prelude.{ℕ, ◌+◌, ◌/◌, ◌%◌, Bool, if◌then◌else◌, not, ◌&&◌, List, [], ◌∷◌, ◌++◌, Option, None, Some, length, codes, decimal, ◌==◌, nat_le, nat_lt}
 use Prim.Native.String.{String}
 use Rattle.std.specs.List.{flat_map}
 use Rattle.sheet.specs.declared.parts.Effect.{Effect}
+use Rattle.sheet.specs.declared.parts.Need.{Need}
 use Rattle.sheet.specs.declared.parts.Pair.{Pair}
-use Rattle.sheet.specs.Model.{Need, Sheet}
+use Rattle.sheet.specs.Model.{Sheet}
 
 abbrev pub newline : List ℕ
 newline = 10 ∷ []
@@ -40,13 +41,13 @@ effect_line i e = fields (("EFFECT ", i) ∷ (" step ", e.step) ∷ (" signal ",
 abbrev pub spaced : List ℕ → List ℕ
 spaced ks = flat_map (λ k. codes " " ++ decimal k) ks
 
-abbrev pub link_text : List ℕ → List ℕ
-link_text [] = codes " none"
-link_text (k ∷ ks) = spaced (k ∷ ks)
+abbrev pub link_text : Option (List ℕ) → List ℕ
+link_text None = codes " none"
+link_text (Some ks) = spaced ks
 
 abbrev pub need_line : ℕ → Need → List ℕ
 need_line i n =
-    fields (("NEED ", i) ∷ (" step ", n.step) ∷ (" signal ", n.signal) ∷ (" a ", n.a) ∷ (" b ", n.b) ∷ [])
+    fields (("NEED ", i) ∷ (" step ", n.step) ∷ (" signal ", n.signal) ∷ (" a ", n.condition.a) ∷ (" b ", n.condition.b) ∷ [])
     (codes " link" ++ (link_text n.link ++ newline))
 
 abbrev pub pair_line : ℕ → Pair → List ℕ

@@ -1,7 +1,6 @@
 // The line of each part of a sheet.
 ghost use Rattle.std.specs.Prelude.{OnOk};
 ghost use Rattle.listing.specs.Appending.{Appended};
-ghost use Rattle.sheet.specs.Model.{link_of, need_of};
 ghost use Rattle.listing.specs.Listing.{signal_line, effect_line, need_line, pair_line, spaced, link_text};
 
 use crate::lines::Line;
@@ -41,7 +40,7 @@ fn push_members(text: &mut String, set: IndexSet) -> Result<(), AllocError>
 }
 
 fn push_link(text: &mut String, link: Option<Link>) -> Result<(), AllocError>
-    ensures { OnOk result (Appended text.old text.new (link_text (link_of link))) }
+    ensures { OnOk result (Appended text.old text.new (link_text link)) }
 {
     match link {
         Some(link) => push_members(text, link.contributors()),
@@ -50,7 +49,7 @@ fn push_link(text: &mut String, link: Option<Link>) -> Result<(), AllocError>
 }
 
 impl Line for Need {
-    ghost line = { λ i n. need_line i (need_of n) };
+    ghost line = { need_line };
 
     fn push_line(&self, text: &mut String, number: usize) -> Result<(), AllocError> {
         let Need {

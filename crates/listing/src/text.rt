@@ -8,6 +8,7 @@ use sheet::sheet::Sheet;
 use std::alloc::AllocError;
 
 // All lines of a sheet but those of names.
+#[tactic(auto, using(std::proofs::Common::append_assoc))]
 pub fn push_sheet(text: &mut String, sheet: &Sheet) -> Result<(), AllocError>
     ensures { OnOk result (Appended text.old text.new (sheet_lines sheet.now)) }
 {

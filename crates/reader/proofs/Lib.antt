@@ -4,7 +4,6 @@ pub mod Advancing
 pub mod Kept
 pub mod Laws
 pub mod Limited
-pub mod Linking
 pub mod Named
 pub mod Nexts
 pub mod Room

@@ -2,9 +2,9 @@
 use Rattle.std.proofs.Common.{◌≡◌, ℕ, true, List, [], ◌∷◌, length, All, subst, arith}
 use Rattle.std.proofs.lemmas.List.Elements.{All-weaker}
 use Rattle.std.proofs.lemmas.Bool.{false≢true}
+use Rattle.sheet.specs.declared.parts.Need.{Need}
 use Rattle.sheet.specs.Fit.{EffectFits, NeedFits}
 use Rattle.sheet.specs.Limits.{Limits}
-use Rattle.sheet.specs.Model.{Need}
 use Rattle.records.specs.declared.record.Mark.TheVariants as mark
 use Rattle.records.specs.Item.{Item}
 use Rattle.reader.specs.Lawful.{stands}

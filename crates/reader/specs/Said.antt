@@ -6,11 +6,13 @@
 --   sheet_of s      the sheet that is said
 --   open_need       a need without a link
 --   linked_by cs n  the need n with these contributors
-use Rattle.std.specs.Prelude.{ℕ, List, [], ◌∷◌, ◌++◌, slice_index_or, slice_set}
+use Rattle.std.specs.Prelude.{ℕ, List, [], ◌∷◌, ◌++◌, None, slice_index_or, slice_set}
 use Rattle.sheet.specs.declared.parts.Effect.{Effect}
+use Rattle.sheet.specs.declared.parts.Need.{Need}
 use Rattle.sheet.specs.declared.parts.Pair.{Pair}
 use Rattle.sheet.specs.Limits.{no_need}
-use Rattle.sheet.specs.Model.{Need, Sheet}
+use Rattle.sheet.specs.Links.{link_by}
+use Rattle.sheet.specs.Model.{Sheet}
 use Rattle.sets.specs.Sets.{mem, rising}
 use Rattle.records.specs.Item.{Item, header, start, effect, need, pair, link, name, end}
 
@@ -28,10 +30,10 @@ abbrev pub nothing : Said
 nothing = record { steps = 0; signals = 0; starts = []; effects = []; needs = []; pairs = []; linked = []; named = [] }
 
 abbrev pub open_need : ℕ → ℕ → ℕ → ℕ → Need
-open_need s x a b = record { step = s; signal = x; a = a; b = b; link = [] }
+open_need s x a b = record { step = s; signal = x; condition = record { a = a; b = b }; link = None }
 
 abbrev pub linked_by : List ℕ → Need → Need
-linked_by cs n = record n { link = rising (λ k. mem k cs) }
+linked_by cs n = record n { link = link_by (rising (λ k. mem k cs)) }
 
 abbrev pub said : Said → Item → Said
 said s (header n v) = record s { steps = n; signals = v }

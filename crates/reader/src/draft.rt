@@ -24,6 +24,7 @@ pub(crate) fn no_parts(heap: Global) -> Parts
 }
 
 // One record more. Only want of memory stands in its way.
+#[tactic(auto, using(sets::proofs::Bits::of_numbers))]
 pub(crate) fn add(parts: &mut Parts, candidate: Record) -> Result<(), AllocError>
     ensures { MatchResult result
         (λ _. (s : Said) → model_of parts.old ≡ sheet_of s → model_of parts.new ≡ sheet_of (said s (item_of candidate.entry)))

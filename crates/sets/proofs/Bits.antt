@@ -105,10 +105,6 @@ rising_again p = rising_same _ _ (λ k h. sym (mem-rising p k h))
 pub ones_rise : (m : ℕ) → Rising (ones m)
 ones_rise m = rising_again (bit m)
 
-pub none_rises : Rising []
-unfolding rising
-none_rises = refl
-
 -- a number of which no bit is set is 0
 pub no_ones : (m : ℕ) → m < 2 ^ 64 → ones m ≡ [] → m ≡ 0
 no_ones m small none = sym (of_ones-ones m small) ∙ ap of_ones none

@@ -7,7 +7,6 @@ use Rattle.std.specs.Prelude.{◌≤◌, All, AllPairs, vec_items, vec_len}
 use Rattle.sheet.specs.declared.parts.Need.{Need}
 use Rattle.sheet.specs.declared.parts.Parts.{Parts}
 use Rattle.sheet.specs.Fit.{EffectFits, SameTarget, NeedFits, LinkFits, PairFits}
-use Rattle.sheet.specs.Model.{link_of}
 
 pub record CountsFit (p : Parts) : Type 0 where
   pub step_count : (2 ≤ p.steps) × (p.steps ≤ 64)
@@ -20,7 +19,7 @@ pub record EffectsFit (p : Parts) : Type 0 where
 
 pub record NeedsFit (p : Parts) : Type 0 where
   pub fit : All (λ (n : Need). NeedFits p.steps (vec_len p.starts) n.step n.signal) (vec_items p.needs)
-  pub links : All (λ (n : Need). LinkFits p.steps (link_of n.link)) (vec_items p.needs)
+  pub links : All (λ (n : Need). LinkFits p.steps n.link) (vec_items p.needs)
 
 abbrev pub PairsFit : Parts → Type 0
 PairsFit p = All (PairFits p.steps) (vec_items p.pairs)

@@ -1,4 +1,5 @@
 pub mod Fit
 pub mod Keeping
 pub mod Limits
+pub mod Links
 pub mod Model

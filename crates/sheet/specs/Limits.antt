@@ -1,12 +1,13 @@
 -- The limits that every sheet keeps.
 --   no_need   what stands past the end of a list of needs
 --   Limits s  the sheet s keeps them all
-use Rattle.std.specs.Prelude.{◌≤◌, [], length, All, AllPairs}
+use Rattle.std.specs.Prelude.{◌≤◌, None, length, All, AllPairs}
+use Rattle.sheet.specs.declared.parts.Need.{Need}
 use Rattle.sheet.specs.Fit.{EffectFits, SameTarget, NeedFits, LinkFits, PairFits}
-use Rattle.sheet.specs.Model.{Need, Sheet}
+use Rattle.sheet.specs.Model.{Sheet}
 
 abbrev pub no_need : Need
-no_need = record { step = 0; signal = 0; a = 0; b = 0; link = [] }
+no_need = record { step = 0; signal = 0; condition = record { a = 0; b = 0 }; link = None }
 
 pub record Limits (s : Sheet) : Type 0 where
   -- 2 to 64 steps
@@ -21,7 +22,7 @@ pub record Limits (s : Sheet) : Type 0 where
   pub effects_single : AllPairs (λ e f. SameTarget e f → ⊥) s.effects
   -- the start has no need, and each need is on a signal that there is
   pub needs_fit : All (λ (n : Need). NeedFits s.steps (length s.starts) n.step n.signal) s.needs
-  -- the contributors of a link stand in rising order, and each is a step that there is
+  -- a link has a contributor, its contributors stand in rising order, and each is a step that there is
   pub links_fit : All (λ (n : Need). LinkFits s.steps n.link) s.needs
   -- each pair is of two steps that there are
   pub pairs_fit : All (PairFits s.steps) s.pairs

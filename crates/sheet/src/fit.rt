@@ -3,7 +3,7 @@ ghost use Rattle.std.specs.Prelude.{◌≡◌, ◌<◌, ◌≤◌, ◌↔◌, Is
 ghost use Rattle.sheet.specs.Fit.{EffectFits, SameTarget, NeedFits, LinkFits, PairFits};
 ghost use Rattle.sheet.specs.Keeping.{CountsFit, EffectsFit, NeedsFit, PairsFit};
 ghost use Rattle.sheet.specs.Limits.{Limits};
-ghost use Rattle.sheet.specs.Model.{link_of, model_of};
+ghost use Rattle.sheet.specs.Model.{model_of};
 
 use crate::parts::{Effect, Need, Pair, Parts};
 
@@ -30,9 +30,8 @@ impl Need {
         self.step > 0 && self.step < parts.steps && usize::from(self.signal) < parts.starts.len()
     }
 
-    #[tactic(auto, using(sets::proofs::Bits::none_rises))]
     fn link_fits(self, steps: u8) -> bool
-        ensures { IsTrue result ↔ LinkFits steps (link_of self.link) }
+        ensures { IsTrue result ↔ LinkFits steps self.link }
     {
         self.link
             .is_none_or(|link| link.contributors().is_below(steps))

@@ -1,6 +1,7 @@
 // The parts of a sheet: effects, needs with their links, and pairs.
-ghost use Rattle.std.specs.Prelude.{◌≡◌, ◌≢◌, ℕ, List, [], ◌↔◌, IsTrue, IsNone, IfSome};
+ghost use Rattle.std.specs.Prelude.{◌≡◌, ◌≢◌, ℕ, List, []};
 ghost use Rattle.sets.specs.Sets.{Rising};
+ghost use Rattle.sheet.specs.Links.{link_by};
 
 use gauge::Condition;
 use sets::index_set::IndexSet;
@@ -34,8 +35,7 @@ impl Model for Link {
 impl Link {
     // The link with these contributors; no step at all makes no link.
     pub fn new(contributors: IndexSet) -> Option<Link>
-        ensures none { IsNone result ↔ (contributors ≡ []) }
-        ensures value { IfSome result (λ link. link ≡ contributors) }
+        ensures value { result ≡ link_by contributors }
     {
         if contributors.is_empty() {
             return None;

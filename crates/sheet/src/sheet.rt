@@ -1,7 +1,7 @@
 // A sheet: the steps of a start, a change-over or a clearing, and what each needs and sets.
-ghost use Rattle.std.specs.Prelude.{◌≡◌, ◌↔◌, map, IsSome, IfSome};
+ghost use Rattle.std.specs.Prelude.{◌≡◌, ◌↔◌, IsSome, IfSome};
 ghost use Rattle.sheet.specs.Limits.{Limits};
-ghost use Rattle.sheet.specs.Model.{need_of, model_of};
+ghost use Rattle.sheet.specs.Model.{model_of};
 
 use crate::parts::{Effect, Need, Pair, Parts};
 use std::marker::Model;
@@ -60,7 +60,7 @@ impl Sheet {
     }
 
     pub fn needs(&self) -> &[Need]
-        ensures value { map need_of result.now ≡ self.now.needs }
+        ensures value { result.now ≡ self.now.needs }
         ensures limits { Limits self.now }
     {
         self.parts.needs.as_slice()
