@@ -1,6 +1,8 @@
 -- What comes next in a file, test by test.
 use Rattle.std.proofs.Common.{◌≡◌, ℕ, true, false, List, Some, None, Ok, Err, Result, sym, ap, ◌∙◌}
+use Rattle.std.specs.Result.{IsErrAnd, MatchResult}
 use Rattle.std.proofs.lemmas.Bool.{cond-true, cond-false}
+use Rattle.std.proofs.lemmas.Result.{err_from_is_err_and}
 use Rattle.faults.specs.declared.fault.Cause.{Cause}
 use Rattle.faults.specs.declared.fault.Cause.TheVariants as cause
 use Rattle.faults.specs.declared.fault.ReaderFault.{ReaderFault}
@@ -39,8 +41,19 @@ module _ (file : List ℕ) (s : Said) (p : ℕ) where
     pub no_body : (f : ReaderFault) → true ≡ stands s m → Err f ≡ body_at file p m → Err f ≡ next file s p
     no_body f e b = ap (admitted s p) b ∙ well_placed e
 
-    pub refused : (x : Item) (q : ℕ) (c : Cause) → true ≡ stands s m → Ok (x, q) ≡ body_at file p m → Some c ≡ objection s x → Err (fault c p) ≡ next file s p
-    refused x q c e b o = ap (refused_by p (x, q)) o ∙ ap (admitted s p) b ∙ well_placed e
+    -- the record is taken, or the cause against it is made a fault here
+    pub judged : (Noted : Type 0) (x : Item) (q : ℕ) (t : Result Unit Cause) (r v : Result Unit ReaderFault) (Made : Cause → ReaderFault → Type 0)
+        → true ≡ stands s m → Ok (x, q) ≡ body_at file p m → MatchResult t (λ _. (objection s x ≡ None) × Noted) (λ c. objection s x ≡ Some c)
+        → MatchResult t (λ u. r ≡ Ok u) (λ c. IsErrAnd r (Made c)) → r ≡ v → ((c : Cause) (f : ReaderFault) → Made c f → f ≡ fault c p)
+        → on_ok v (λ _. Ok (x, q)) ≡ next file s p
+    judged Noted x q t r v Made e b admits cases same made =
+        ap taken (sym same) ∙ here t admits cases ∙ ap (admitted s p) b ∙ well_placed e where
+          taken : Result Unit ReaderFault → Result (Item × ℕ) ReaderFault
+          taken u = on_ok u (λ _. Ok (x, q))
 
-    pub accepted : (x : Item) (q : ℕ) → true ≡ stands s m → Ok (x, q) ≡ body_at file p m → None ≡ objection s x → Ok (x, q) ≡ next file s p
-    accepted x q e b o = ap (refused_by p (x, q)) o ∙ ap (admitted s p) b ∙ well_placed e
+          here : (t : Result Unit Cause) → MatchResult t (λ _. (objection s x ≡ None) × Noted) (λ c. objection s x ≡ Some c)
+              → MatchResult t (λ u. r ≡ Ok u) (λ c. IsErrAnd r (Made c)) → taken r ≡ admitted s p (Ok (x, q))
+          here (Ok u) admits done = ap taken done ∙ ap (refused_by p (x, q)) (sym admits.0)
+          here (Err c) admits refused =
+              let f = err_from_is_err_and r refused in
+              ap taken (f.1 ∙ ap Err (made c f.0 f.2)) ∙ ap (refused_by p (x, q)) (sym admits)

@@ -33,15 +33,16 @@ impl Ledger {
             return Err(cursor.fault(Cause::Mark));
         }
         let (record, end) = cursor.body(mark)?;
-        // with `map_err` the proof did not close
-        match self.admit(record) {
-            Ok(()) => Ok((record, end)),
-            Err(cause) => Err(cursor.fault(cause)),
-        }
+        // copied out, since of a closure that borrows the cursor the check learns nothing
+        let place = cursor.at;
+        self.admit(record)
+            .map_err(|cause| ReaderFault { cause, place })?;
+        Ok((record, end))
     }
 }
 
 impl<'a> Walk<'a> {
+    #[tactic(auto, using(crate::proofs::Advancing::walk_begins))]
     pub(crate) fn new(file: &'a [u8]) -> Walk<'a>
         ensures after { After result [] 0 }
         ensures file { result.file.now ≡ file.now }

@@ -34,11 +34,9 @@ impl<'a> Cursor<'a> {
         let Some([first, second, ..]) = self.file.get(usize::from(self.at)..) else {
             return Err(self.fault(Cause::CutShort));
         };
-        // with `map_err`, or a lemma on it, the proof did not close
-        match Mark::try_from([*first, *second]) {
-            Ok(mark) => Ok(mark),
-            Err(cause) => Err(self.fault(cause)),
-        }
+        // copied out, since of a closure that borrows the cursor the check learns nothing
+        let place = self.at;
+        Mark::try_from([*first, *second]).map_err(|cause| ReaderFault { cause, place })
     }
 
     // The bytes behind the mark.

@@ -1,6 +1,6 @@
-use Rattle.std.proofs.Common.{Err, sym, ap, ◌∙◌}
+use Rattle.std.proofs.Common.{rules, Err, ap, ◌∙◌}
 use Rattle.std.proofs.lemmas.Result.{err_from_is_err_and}
-use Rattle.reader.proofs.Nexts.{shows_stands, no_mark, misplaced, no_body, refused, accepted}
+use Rattle.reader.proofs.Nexts.{shows_stands, no_mark, misplaced, no_body, judged}
 use Rattle.reader.proofs.ledger.Ledger.read_record.Goals as goal
 
 pub returns-in_err-mark-clause-value : goal.returns-in_err-mark-clause-value
@@ -21,15 +21,16 @@ returns-in_err-record-clause-value c s shows =
     (no_body c.args.cursor.now.file.now s c.args.cursor.now.at c.in_ok-mark.mark c.in_ok-mark.ensures _
     (c.if-not-may_stand.ensures ∙ shows_stands c.args.self.now s c.in_ok-mark.mark shows) c.in_err-record.ensures.value)
 
-pub returns-in-Err-clause-value : goal.returns-in-Err-clause-value
-returns-in-Err-clause-value c s shows =
-    ap Err c.fault-in-Err.ensures
-    ∙ refused c.args.cursor.now.file.now s c.args.cursor.now.at c.in_ok-mark.mark c.in_ok-mark.ensures _ _ _
+pub returns-in_err-map_err-clause-value : goal.returns-in_err-map_err-clause-value
+returns-in_err-map_err-clause-value c s shows =
+    let p = err_from_is_err_and c.from_residual-in_err-map_err.result c.from_residual-in_err-map_err.ensures.1 in
+    rw (p.1, p.2)
+    (judged c.args.cursor.now.file.now s c.args.cursor.now.at c.in_ok-mark.mark c.in_ok-mark.ensures _ _ _ c.admit.result c.map_err.result _ _
     (c.if-not-may_stand.ensures ∙ shows_stands c.args.self.now s c.in_ok-mark.mark shows)
-    c.in_ok-record.ensures.value (sym (c.in-Err.ensures s shows))
+    c.in_ok-record.ensures.value (c.admit.ensures s shows) c.map_err.ensures.cases c.in_err-map_err.was (λ k f made. search rules))
 
-pub returns-in-Ok-clause-value : goal.returns-in-Ok-clause-value
-returns-in-Ok-clause-value c s shows =
-    accepted c.args.cursor.now.file.now s c.args.cursor.now.at c.in_ok-mark.mark c.in_ok-mark.ensures _ _
+pub returns-clause-value : goal.returns-clause-value
+returns-clause-value c s shows =
+    judged c.args.cursor.now.file.now s c.args.cursor.now.at c.in_ok-mark.mark c.in_ok-mark.ensures _ _ _ c.admit.result c.map_err.result _ _
     (c.if-not-may_stand.ensures ∙ shows_stands c.args.self.now s c.in_ok-mark.mark shows)
-    c.in_ok-record.ensures.value (sym (c.in-Ok.ensures s shows).0)
+    c.in_ok-record.ensures.value (c.admit.ensures s shows) c.map_err.ensures.cases c.in_ok-map_err.was (λ k f made. search rules)
