@@ -4,7 +4,6 @@ use Rattle.std.specs.List.{range_with_len}
 use Rattle.std.proofs.lemmas.List.Elements.{All-push, All-set, All-get_or, All-nil, All-weaker, filter_passes}
 use Rattle.std.proofs.lemmas.List.Quantifiers.{all_pairs_push}
 use Rattle.std.proofs.lemmas.List.{length_push, length-set}
-use mathlib.Core.List.{cons≢nil}
 use Rattle.std.proofs.lemmas.Bool.{ltb-true, lt-ltb, and_parts, not-true, both_ways, false≢true}
 use Rattle.sheet.specs.declared.parts.Effect.{Effect}
 use Rattle.sheet.specs.declared.parts.Need.{Need}
@@ -12,8 +11,8 @@ use Rattle.sheet.specs.declared.parts.Pair.{Pair}
 use Rattle.sheet.specs.Fit.{EffectFits, SameTarget, NeedFits, LinkFits, PairFits}
 use Rattle.sheet.specs.Limits.{no_need}
 use Rattle.sheet.specs.Links.{link_by}
-use Rattle.sets.specs.Sets.{mem, rising, Rising}
-use Rattle.sets.proofs.Bits.{mem_passes, rising_again}
+use Rattle.sets.specs.Sets.{mem, rising}
+use Rattle.sets.proofs.Bits.{mem_passes}
 use Rattle.records.specs.declared.record.Mark.TheVariants as mark
 use Rattle.records.specs.Item.{Item, header, start, effect, need, pair, link, name, end}
 use Rattle.reader.specs.Lawful.{stands, Admissible}
@@ -57,18 +56,17 @@ pub record Kept (s : Said) : Type 0 where
 single_push : (es : List Effect) (f : Effect) → Fresh es f → Single es → Single (es ++ f ∷ [])
 single_push es f fresh single = all_pairs_push (λ e g. SameTarget e g → ⊥) es f single fresh
 
--- a rising list of steps makes a link that fits, or none
-link_fits : (n : ℕ) (ks : List ℕ) → Rising ks × All (λ k. k < n) ks → LinkFits n (link_by ks)
-link_fits n [] fits = tt
-link_fits n (k ∷ ks) fits = (λ e. cons≢nil e, fits.0, fits.1)
+-- a list of steps makes a link that fits, or none
+link_fits : (n : ℕ) (ks : List ℕ) → All (λ k. k < n) ks → LinkFits n (link_by ks)
+link_fits n [] below = tt
+link_fits n (k ∷ ks) below = below
 
 -- a link of steps that there are
 rising_fits : (n : ℕ) (cs : List ℕ) → All (λ k. k < n) cs → LinkFits n (link_by (rising (λ k. mem k cs)))
 unfolding rising
-rising_fits n cs below = link_fits n _ (
-  rising_again (λ k. mem k cs),
-  All-weaker (λ k. mem k cs ≡ true) (λ k. k < n) (λ k e. mem_passes (λ j. j < n) cs k below e) _ (filter_passes (λ k. mem k cs) (range_with_len 0 64)),
-)
+rising_fits n cs below =
+    link_fits n _
+    (All-weaker (λ k. mem k cs ≡ true) (λ k. k < n) (λ k e. mem_passes (λ j. j < n) cs k below e) _ (filter_passes (λ k. mem k cs) (range_with_len 0 64)))
 
 -- a header may stand only where none is read
 pub no_header : (s : Said) → 0 < s.steps → stands s mark.Header ≡ true → ⊥

@@ -1,6 +1,5 @@
 // The sheet that is being read, record by record.
 ghost use Rattle.std.specs.Prelude.{◌≡◌, true, MatchOption, MatchResult};
-ghost use Rattle.sheet.specs.Limits.{Limits};
 ghost use Rattle.sheet.specs.Model.{model_of};
 ghost use Rattle.reader.specs.Draft.{takes_memory};
 ghost use Rattle.reader.specs.Said.{Said, said, nothing, sheet_of};

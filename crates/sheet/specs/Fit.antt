@@ -2,10 +2,9 @@
 --   EffectFits n v e  the effect is of a step between start and finish, on a signal that there is
 --   SameTarget e f    two effects of one step on one signal
 --   NeedFits n v s x  a need of the step s on the signal x: no need of the start, on a signal that there is
---   LinkFits n l      the link l, where there is one, has a contributor, and its contributors are in rising order, each once, and are steps that there are
+--   LinkFits n l      the contributors of the link l, where there is one, are steps that there are
 --   PairFits n p      both steps of the pair are there
-use Rattle.std.specs.Prelude.{◌≡◌, ◌≢◌, ℕ, suc, ◌<◌, List, [], All, Option, IfSome}
-use Rattle.sets.specs.Sets.{Rising}
+use Rattle.std.specs.Prelude.{◌≡◌, ℕ, suc, ◌<◌, List, All, Option, IfSome}
 use Rattle.sheet.specs.declared.parts.Effect.{Effect}
 use Rattle.sheet.specs.declared.parts.Pair.{Pair}
 
@@ -19,7 +18,7 @@ abbrev pub NeedFits : ℕ → ℕ → ℕ → ℕ → Type 0
 NeedFits n v s x = (0 < s) × (s < n) × (x < v)
 
 abbrev pub LinkFits : ℕ → Option (List ℕ) → Type 0
-LinkFits n l = IfSome l (λ ks. (ks ≢ []) × Rising ks × All (λ k. k < n) ks)
+LinkFits n l = IfSome l (λ ks. All (λ k. k < n) ks)
 
 abbrev pub PairFits : ℕ → Pair → Type 0
 PairFits n p = (p.earlier < n) × (p.later < n)

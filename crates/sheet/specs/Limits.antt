@@ -1,9 +1,11 @@
 -- The limits that every sheet keeps.
---   no_need   what stands past the end of a list of needs
---   Limits s  the sheet s keeps them all
-use Rattle.std.specs.Prelude.{◌≤◌, None, length, All, AllPairs}
+--   no_need    what stands past the end of a list of needs
+--   Limits s   the sheet s keeps them all
+--   Linked ns  each of the needs has a link as it may be, or none
+use Rattle.std.specs.Prelude.{◌≤◌, None, List, length, All, AllPairs}
 use Rattle.sheet.specs.declared.parts.Need.{Need}
 use Rattle.sheet.specs.Fit.{EffectFits, SameTarget, NeedFits, LinkFits, PairFits}
+use Rattle.sheet.specs.Links.{IsLink}
 use Rattle.sheet.specs.Model.{Sheet}
 
 abbrev pub no_need : Need
@@ -22,7 +24,10 @@ pub record Limits (s : Sheet) : Type 0 where
   pub effects_single : AllPairs (λ e f. SameTarget e f → ⊥) s.effects
   -- the start has no need, and each need is on a signal that there is
   pub needs_fit : All (λ (n : Need). NeedFits s.steps (length s.starts) n.step n.signal) s.needs
-  -- a link has a contributor, its contributors stand in rising order, and each is a step that there is
+  -- each contributor of a link is a step that there is
   pub links_fit : All (λ (n : Need). LinkFits s.steps n.link) s.needs
   -- each pair is of two steps that there are
   pub pairs_fit : All (PairFits s.steps) s.pairs
+
+abbrev pub Linked : List Need → Type 0
+Linked ns = All (λ (n : Need). IsLink n.link) ns
