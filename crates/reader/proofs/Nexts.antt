@@ -1,8 +1,7 @@
 -- What comes next in a file, test by test.
 use Rattle.std.proofs.Common.{◌≡◌, ℕ, true, false, List, Some, None, Ok, Err, Result, sym, ap, ◌∙◌}
-use Rattle.std.specs.Result.{IsErrAnd, MatchResult}
+use Rattle.std.specs.Result.{MatchResult}
 use Rattle.std.proofs.lemmas.Bool.{cond-true, cond-false}
-use Rattle.std.proofs.lemmas.Result.{err_from_is_err_and}
 use Rattle.faults.specs.declared.fault.Cause.{Cause}
 use Rattle.faults.specs.declared.fault.Cause.TheVariants as cause
 use Rattle.faults.specs.declared.fault.ReaderFault.{ReaderFault}
@@ -13,6 +12,7 @@ use Rattle.reader.specs.Lawful.{stands, stands_after, objection}
 use Rattle.reader.specs.Reading.{refused_by, admitted, placed, next}
 use Rattle.reader.specs.Said.{Said}
 use Rattle.records.specs.Shape.{fault, on_ok, mark_at, body_at}
+use Rattle.records.proofs.Handing.{handed}
 use Rattle.reader.specs.Shows.{Shows}
 
 -- a ledger knows which marks may stand
@@ -42,18 +42,14 @@ module _ (file : List ℕ) (s : Said) (p : ℕ) where
     no_body f e b = ap (admitted s p) b ∙ well_placed e
 
     -- the record is taken, or the cause against it is made a fault here
-    pub judged : (Noted : Type 0) (x : Item) (q : ℕ) (t : Result Unit Cause) (r v : Result Unit ReaderFault) (Made : Cause → ReaderFault → Type 0)
+    pub judged : (Noted : Type 0) (x : Item) (q : ℕ) (t : Result Unit Cause) (v : Result Unit ReaderFault)
         → true ≡ stands s m → Ok (x, q) ≡ body_at file p m → MatchResult t (λ _. (objection s x ≡ None) × Noted) (λ c. objection s x ≡ Some c)
-        → MatchResult t (λ u. r ≡ Ok u) (λ c. IsErrAnd r (Made c)) → r ≡ v → ((c : Cause) (f : ReaderFault) → Made c f → f ≡ fault c p)
-        → on_ok v (λ _. Ok (x, q)) ≡ next file s p
-    judged Noted x q t r v Made e b admits cases same made =
-        ap taken (sym same) ∙ here t admits cases ∙ ap (admitted s p) b ∙ well_placed e where
-          taken : Result Unit ReaderFault → Result (Item × ℕ) ReaderFault
-          taken u = on_ok u (λ _. Ok (x, q))
+        → v ≡ handed p t → on_ok v (λ _. Ok (x, q)) ≡ next file s p
+    judged Noted x q t v e b admits same = ap taken same ∙ here t admits ∙ ap (admitted s p) b ∙ well_placed e where
+      taken : Result Unit ReaderFault → Result (Item × ℕ) ReaderFault
+      taken u = on_ok u (λ _. Ok (x, q))
 
-          here : (t : Result Unit Cause) → MatchResult t (λ _. (objection s x ≡ None) × Noted) (λ c. objection s x ≡ Some c)
-              → MatchResult t (λ u. r ≡ Ok u) (λ c. IsErrAnd r (Made c)) → taken r ≡ admitted s p (Ok (x, q))
-          here (Ok u) admits done = ap taken done ∙ ap (refused_by p (x, q)) (sym admits.0)
-          here (Err c) admits refused =
-              let f = err_from_is_err_and r refused in
-              ap taken (f.1 ∙ ap Err (made c f.0 f.2)) ∙ ap (refused_by p (x, q)) (sym admits)
+      here : (t : Result Unit Cause) → MatchResult t (λ _. (objection s x ≡ None) × Noted) (λ c. objection s x ≡ Some c)
+          → taken (handed p t) ≡ admitted s p (Ok (x, q))
+      here (Ok u) admits = ap (refused_by p (x, q)) (sym admits.0)
+      here (Err c) admits = ap (refused_by p (x, q)) (sym admits)

@@ -33,7 +33,7 @@ impl Ledger {
             return Err(cursor.fault(Cause::Mark));
         }
         let (record, end) = cursor.body(mark)?;
-        // copied out, since of a closure that borrows the cursor the check learns nothing
+        // copied out, since no proof was found of what a closure that borrows the cursor answers
         let place = cursor.at;
         self.admit(record)
             .map_err(|cause| ReaderFault { cause, place })?;

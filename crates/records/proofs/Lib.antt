@@ -1,3 +1,4 @@
 pub mod Bodies
+pub mod Handing
 pub mod Marking
 pub mod Writing

@@ -34,7 +34,7 @@ impl<'a> Cursor<'a> {
         let Some([first, second, ..]) = self.file.get(usize::from(self.at)..) else {
             return Err(self.fault(Cause::CutShort));
         };
-        // copied out, since of a closure that borrows the cursor the check learns nothing
+        // copied out, since no proof was found of what a closure that borrows the cursor answers
         let place = self.at;
         Mark::try_from([*first, *second]).map_err(|cause| ReaderFault { cause, place })
     }

@@ -1,5 +1,6 @@
-use Rattle.std.proofs.Common.{rules, Err, ap, ◌∙◌}
+use Rattle.std.proofs.Common.{rules, Err, sym, ap, ◌∙◌}
 use Rattle.std.proofs.lemmas.Result.{err_from_is_err_and}
+use Rattle.records.proofs.Handing.{handed_on}
 use Rattle.reader.proofs.Nexts.{shows_stands, no_mark, misplaced, no_body, judged}
 use Rattle.reader.proofs.ledger.Ledger.read_record.Goals as goal
 
@@ -25,12 +26,14 @@ pub returns-in_err-map_err-clause-value : goal.returns-in_err-map_err-clause-val
 returns-in_err-map_err-clause-value c s shows =
     let p = err_from_is_err_and c.from_residual-in_err-map_err.result c.from_residual-in_err-map_err.ensures.1 in
     rw (p.1, p.2)
-    (judged c.args.cursor.now.file.now s c.args.cursor.now.at c.in_ok-mark.mark c.in_ok-mark.ensures _ _ _ c.admit.result c.map_err.result _ _
+    (judged c.args.cursor.now.file.now s c.args.cursor.now.at c.in_ok-mark.mark c.in_ok-mark.ensures _ _ _ c.admit.result _
     (c.if-not-may_stand.ensures ∙ shows_stands c.args.self.now s c.in_ok-mark.mark shows)
-    c.in_ok-record.ensures.value (c.admit.ensures s shows) c.map_err.ensures.cases c.in_err-map_err.was (λ k f made. search rules))
+    c.in_ok-record.ensures.value (c.admit.ensures s shows)
+    (sym c.in_err-map_err.was ∙ handed_on c.args.cursor.now.at c.admit.result c.map_err.result _ c.map_err.ensures.cases (λ k f made. search rules)))
 
 pub returns-clause-value : goal.returns-clause-value
 returns-clause-value c s shows =
-    judged c.args.cursor.now.file.now s c.args.cursor.now.at c.in_ok-mark.mark c.in_ok-mark.ensures _ _ _ c.admit.result c.map_err.result _ _
+    judged c.args.cursor.now.file.now s c.args.cursor.now.at c.in_ok-mark.mark c.in_ok-mark.ensures _ _ _ c.admit.result _
     (c.if-not-may_stand.ensures ∙ shows_stands c.args.self.now s c.in_ok-mark.mark shows)
-    c.in_ok-record.ensures.value (c.admit.ensures s shows) c.map_err.ensures.cases c.in_ok-map_err.was (λ k f made. search rules)
+    c.in_ok-record.ensures.value (c.admit.ensures s shows)
+    (sym c.in_ok-map_err.was ∙ handed_on c.args.cursor.now.at c.admit.result c.map_err.result _ c.map_err.ensures.cases (λ k f made. search rules))
