@@ -5,7 +5,7 @@
 --   signal_line i w   the line of signal i, which starts at the word w
 --   effect_line i e   the line of effect i
 --   spaced ks         numbers, each after a space
---   link_text l       the contributors of a link, or the word for no link, each after a space
+--   link_text o       the contributors of a link, or the word for no link, each after a space
 --   need_line i n     the line of need i
 --   pair_line i p     the line of pair i
 --   numbered f i xs   the lines of a list of parts by f, numbered from i
@@ -17,7 +17,9 @@
 use Rattle.std.specs.Prelude.{ℕ, ◌+◌, ◌/◌, ◌%◌, Bool, if◌then◌else◌, not, ◌&&◌, List, [], ◌∷◌, ◌++◌, Option, None, Some, length, codes, decimal, ◌==◌, nat_le, nat_lt}
 use Prim.Native.String.{String}
 use Rattle.std.specs.List.{flat_map}
+use Rattle.sets.specs.Sets.{members}
 use Rattle.sheet.specs.declared.parts.Effect.{Effect}
+use Rattle.sheet.specs.declared.parts.Link.{Link}
 use Rattle.sheet.specs.declared.parts.Need.{Need}
 use Rattle.sheet.specs.declared.parts.Pair.{Pair}
 use Rattle.sheet.specs.Model.{Sheet}
@@ -41,9 +43,9 @@ effect_line i e = fields (("EFFECT ", i) ∷ (" step ", e.step) ∷ (" signal ",
 abbrev pub spaced : List ℕ → List ℕ
 spaced ks = flat_map (λ k. codes " " ++ decimal k) ks
 
-abbrev pub link_text : Option (List ℕ) → List ℕ
+abbrev pub link_text : Option Link → List ℕ
 link_text None = codes " none"
-link_text (Some ks) = spaced ks
+link_text (Some l) = spaced (members l.contributors)
 
 abbrev pub need_line : ℕ → Need → List ℕ
 need_line i n =

@@ -1,5 +1,6 @@
 // The line of each part of a sheet.
 ghost use Rattle.std.specs.Prelude.{OnOk};
+ghost use Rattle.sets.specs.Sets.{members};
 ghost use Rattle.listing.specs.Appending.{Appended};
 ghost use Rattle.listing.specs.Listing.{signal_line, effect_line, need_line, pair_line, spaced, link_text};
 
@@ -31,7 +32,7 @@ impl Line for Effect {
 }
 
 fn push_members(text: &mut String, set: IndexSet) -> Result<(), AllocError>
-    ensures { OnOk result (Appended text.old text.new (spaced set)) }
+    ensures { OnOk result (Appended text.old text.new (spaced (members set))) }
 {
     for k in set.iter() {
         write!(text, " {k}")?;

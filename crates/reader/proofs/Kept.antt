@@ -10,9 +10,10 @@ use Rattle.sheet.specs.declared.parts.Need.{Need}
 use Rattle.sheet.specs.declared.parts.Pair.{Pair}
 use Rattle.sheet.specs.Fit.{EffectFits, SameTarget, NeedFits, LinkFits, PairFits}
 use Rattle.sheet.specs.Limits.{no_need}
-use Rattle.sheet.specs.Links.{link_by}
-use Rattle.sets.specs.Sets.{mem, rising}
-use Rattle.sets.proofs.Bits.{mem_passes}
+use Rattle.sheet.specs.Links.{link_by, link_of, link_when}
+use Rattle.sets.specs.declared.index_set.IndexSet.{IndexSet}
+use Rattle.sets.specs.Sets.{mem, members, rising}
+use Rattle.sets.proofs.Bits.{mem_passes, members-rising}
 use Rattle.records.specs.declared.record.Mark.TheVariants as mark
 use Rattle.records.specs.Item.{Item, header, start, effect, need, pair, link, name, end}
 use Rattle.reader.specs.Lawful.{stands, Admissible}
@@ -56,17 +57,22 @@ pub record Kept (s : Said) : Type 0 where
 single_push : (es : List Effect) (f : Effect) → Fresh es f → Single es → Single (es ++ f ∷ [])
 single_push es f fresh single = all_pairs_push (λ e g. SameTarget e g → ⊥) es f single fresh
 
--- a list of steps makes a link that fits, or none
-link_fits : (n : ℕ) (ks : List ℕ) → All (λ k. k < n) ks → LinkFits n (link_by ks)
-link_fits n [] below = tt
-link_fits n (k ∷ ks) below = below
+-- a set of steps makes a link that fits, or none
+link_fits : (n : ℕ) (s : IndexSet) (l : List ℕ) (same : members s ≡ l) → All (λ k. k < n) (members s) → LinkFits n (link_when s l same)
+link_fits n s [] same below = tt
+link_fits n s (k ∷ l) same below = below
+
+below_rising : (n : ℕ) (cs : List ℕ) → All (λ k. k < n) cs → All (λ k. k < n) (rising (λ k. mem k cs))
+unfolding rising
+below_rising n cs below =
+    All-weaker (λ k. mem k cs ≡ true) (λ k. k < n) (λ k e. mem_passes (λ j. j < n) cs k below e) _ (filter_passes (λ k. mem k cs) (range_with_len 0 64))
 
 -- a link of steps that there are
 rising_fits : (n : ℕ) (cs : List ℕ) → All (λ k. k < n) cs → LinkFits n (link_by (rising (λ k. mem k cs)))
-unfolding rising
+unfolding link_of
 rising_fits n cs below =
-    link_fits n _
-    (All-weaker (λ k. mem k cs ≡ true) (λ k. k < n) (λ k e. mem_passes (λ j. j < n) cs k below e) _ (filter_passes (λ k. mem k cs) (range_with_len 0 64)))
+    link_fits n _ _ refl
+    (subst (All (λ k. k < n)) (sym (members-rising (λ k. mem k cs))) (below_rising n cs below))
 
 -- a header may stand only where none is read
 pub no_header : (s : Said) → 0 < s.steps → stands s mark.Header ≡ true → ⊥

@@ -10,7 +10,8 @@ use Rattle.std.proofs.lemmas.List.Elements.{All-cons, All-nil}
 use Rattle.std.proofs.lemmas.Nat.Bits.{bit_at-trailing_zeros, bit_at_xor, bit_at-pow_same, bit_at-pow_other}
 use Rattle.std.specs.Int.{trailing_zeros}
 use Rattle.std.proofs.lemmas.Nat.{one_shl, or_lt, xor_lt, shr-shr}
-use Rattle.sets.specs.Sets.{added, bit, mem, ones, of_ones, rising, Rising}
+use Rattle.sets.specs.declared.index_set.IndexSet.{IndexSet}
+use Rattle.sets.specs.Sets.{added, bit, empty_set, mem, members, ones, of_ones, rising, Rising, set_of}
 use Rattle.sets.specs.Ones.{bit-last, of_ones-from, of_ones-ones}
 
 two : (n : ℕ) → n < 2 → (n ≡ 0) ⊎ (n ≡ 1)
@@ -118,14 +119,16 @@ module _ (m i : ℕ) (inside : i < 64) where
   pub small_more : m < 2 ^ 64 → bit_or m ((1 * 2 ^ i) % 2 ^ 64) < 2 ^ 64
   small_more small = or_lt 64 m _ small (omega arith)
 
-  pub ones_more : ones (bit_or m ((1 * 2 ^ i) % 2 ^ 64)) ≡ added (ones m) i
+  pub ones_more : ones (bit_or m ((1 * 2 ^ i) % 2 ^ 64)) ≡ rising (λ j. j == i || mem j (ones m))
   ones_more =
-      rw (lt-ltb i 64 inside)
-      (rising_same _ _ (λ k h. bit_more m i k inside ∙ ap (λ (t : Bool). k == i || t) (sym (mem-rising (bit m) k h))))
+      rising_same _ _ (λ k h. bit_more m i k inside ∙ ap (λ (t : Bool). k == i || t) (sym (mem-rising (bit m) k h)))
+
+  -- the number that has those ones
+  pub mask_more : m < 2 ^ 64 → bit_or m ((1 * 2 ^ i) % 2 ^ 64) ≡ of_ones (rising (λ j. j == i || mem j (ones m)))
+  mask_more small = sym (of_ones-ones _ (small_more small)) ∙ ap of_ones ones_more
 
   pub mem_of_more : (k : ℕ) → k < 64 → mem k (ones (bit_or m ((1 * 2 ^ i) % 2 ^ 64))) ≡ (k == i || mem k (ones m))
-  mem_of_more k h =
-      ap (mem k) ones_more ∙ rw (lt-ltb i 64 inside) (mem-rising (λ j. j == i || mem j (ones m)) k h)
+  mem_of_more k h = ap (mem k) ones_more ∙ mem-rising (λ j. j == i || mem j (ones m)) k h
 
 kept_none : (p : ℕ → Bool) (a n : ℕ) → ((k : ℕ) → a ≤ k → k < a + n → p k ≡ false) → filter p (range_with_len a n) ≡ []
 kept_none p a zero none = refl
@@ -200,26 +203,61 @@ or_turn true true z = refl
 or_turn true false z = refl
 or_turn false y z = sym (ap (λ (t : Bool). t || z) (or-false y))
 
-added-rising : (p : ℕ → Bool) (c : ℕ) → added (rising p) c ≡ rising (λ k. k == c || p k)
-added-rising p c =
-    elim (cases_lt c 64) [
-      | inl inside ↦ rw (lt-ltb c 64 inside) (rising_same _ _ (λ k h. ap (λ (t : Bool). k == c || t) (mem-rising p k h)))
-      | inr past ↦ rw (le-ltb c 64 past) (rising_same _ _ (λ k h. sym (ap (λ (t : Bool). t || p k) (ne_eqb k c (λ e. omega arith)))))
-    ]
-
-folded : (p : ℕ → Bool) (cs : List ℕ) → fold added (rising p) cs ≡ rising (λ k. mem k cs || p k)
-folded p [] = refl
-folded p (c ∷ cs) =
-    ap (λ (s : List ℕ). fold added s cs) (added-rising p c) ∙ folded (λ k. k == c || p k) cs
-    ∙ rising_same _ _ (λ k h. or_turn (mem k cs) (k == c) (p k))
-
 none_rising : rising (λ _. false) ≡ []
 unfolding rising
 none_rising = refl
 
-pub of_numbers : (cs : List ℕ) → fold added [] cs ≡ rising (λ k. mem k cs)
+-- a number has ones at the places that a list names, and at no other
+bits_of : (cs : List ℕ) → (m : ℕ) × (m < 2 ^ 64) × (ones m ≡ rising (λ k. mem k cs))
+bits_of [] = (0, omega arith, ones_of_none ∙ sym none_rising)
+bits_of (c ∷ cs) =
+    let fewer = bits_of cs in
+    elim (cases_lt c 64) [
+      | inl inside ↦ (
+        _,
+        small_more fewer.0 c inside fewer.1,
+        ones_more fewer.0 c inside
+            ∙ rising_same _ _ (λ k h. ap (λ (t : Bool). k == c || t) (ap (mem k) fewer.2 ∙ mem-rising (λ j. mem j cs) k h)),
+      )
+      | inr past ↦ (
+        fewer.0,
+        fewer.1,
+        fewer.2 ∙ rising_same _ _ (λ k h. sym (ap (λ (t : Bool). t || mem k cs) (ne_eqb k c (λ e. omega arith)))),
+      )
+    ]
+
+-- the list of a set is that of the number with those ones
+pub ones-of_ones : (l : List ℕ) → Rising l → ones (of_ones l) ≡ l
+ones-of_ones l rises =
+    let bits = bits_of l in
+    let same : ones bits.0 ≡ l = bits.2 ∙ sym rises in
+    ap ones (ap of_ones (sym same) ∙ of_ones-ones bits.0 bits.1) ∙ same
+
+pub members-rising : (p : ℕ → Bool) → members (set_of (rising p)) ≡ rising p
+members-rising p = ones-of_ones (rising p) (rising_again p)
+
+added-rising : (p : ℕ → Bool) (c : ℕ) → added (set_of (rising p)) c ≡ set_of (rising (λ k. k == c || p k))
+added-rising p c =
+    elim (cases_lt c 64) [
+      | inl inside ↦
+          rw (lt-ltb c 64 inside)
+          (ap set_of
+          (rising_same _ _ (λ k h. ap (λ (t : Bool). k == c || t) (ap (mem k) (members-rising p) ∙ mem-rising p k h))))
+      | inr past ↦
+          rw (le-ltb c 64 past)
+          (ap set_of (rising_same _ _ (λ k h. sym (ap (λ (t : Bool). t || p k) (ne_eqb k c (λ e. omega arith))))))
+    ]
+
+folded : (p : ℕ → Bool) (cs : List ℕ) → fold added (set_of (rising p)) cs ≡ set_of (rising (λ k. mem k cs || p k))
+folded p [] = refl
+folded p (c ∷ cs) =
+    ap (λ (s : IndexSet). fold added s cs) (added-rising p c) ∙ folded (λ k. k == c || p k) cs
+    ∙ ap set_of (rising_same _ _ (λ k h. or_turn (mem k cs) (k == c) (p k)))
+
+pub of_numbers : (cs : List ℕ) → fold added empty_set cs ≡ set_of (rising (λ k. mem k cs))
 of_numbers cs =
-    ap (λ (s : List ℕ). fold added s cs) (sym none_rising) ∙ folded (λ _. false) cs ∙ rising_same _ _ (λ k h. or-false (mem k cs))
+    ap (λ (l : List ℕ). fold added (set_of l) cs) (sym none_rising) ∙ folded (λ _. false) cs
+    ∙ ap set_of (rising_same _ _ (λ k h. or-false (mem k cs)))
 
 -- the first that passes, and the others
 first_kept : (p q : ℕ → Bool) (k a n : ℕ) → a ≤ k → k < a + n → p k ≡ true → q k ≡ false → ((i : ℕ) → i < k → p i ≡ false) → ((i : ℕ) → i ≢ k → q i ≡ p i)
@@ -264,6 +302,6 @@ pub ruleset emptiness = (no_ones, ones_of_none, ones_rise)
 
 pub ruleset bounds = (below_64, nothing_left_below, below_nothing_left)
 
-pub ruleset one_more = (small_more, ones_more, mem_of_more)
+pub ruleset one_more = (small_more, mask_more, mem_of_more, ones_rise)
 
 pub ruleset lowest = (ones_of_none, lowest_first, small_less)

@@ -1,59 +1,47 @@
 // A set of numbers below 64: steps or signals.
-ghost use Rattle.std.specs.Prelude.{◌≡◌, fold, ℕ, ◌<◌, ◌^◌, ◌↔◌, [], List, ◌||◌, ◌==◌, IsTrue, All, ◌∷◌, MatchOption};
-ghost use Rattle.sets.specs.Sets.{mem, added, ones, of_ones, Rising};
-ghost use Rattle.sets.specs.Ones.{of_ones-ones};
-ghost use Rattle.std.proofs.Common.{ap};
+ghost use Rattle.std.specs.Prelude.{◌&&◌, nat_lt, bit_or, ◌^◌, if◌then◌else◌, ◌≡◌, fold, ℕ, ◌<◌, ◌↔◌, [], ◌||◌, ◌==◌, IsTrue, All, ◌∷◌, MatchOption};
+ghost use Rattle.sets.specs.Sets.{bit, mem, members, empty_set, added, Rising};
 
 use crate::members::Members;
-use std::marker::Model;
 
-// Its bits are packed, so that it takes no heap and is copied as one number; a contract sees the rising list of its members.
-// A caller sees that list alone, so calls that ask of a set say by `rising` what every set's list is. No `==` and no `Debug`:
-// nothing compares or prints a set.
+// Its bits are packed, so that it takes no heap and is copied as one number; a contract speaks of the rising list of its
+// members. No `impl Model`: what holds a struct with one can't be passed by value twice, so a set, and what holds one, would
+// not be copied. No `==` and no `Debug`: nothing compares or prints a set.
 #[derive(Clone, Copy)]
 pub struct IndexSet {
     mask: u64,
 }
 
-impl Model for IndexSet {
-    ghost Value = { List ℕ };
-
-    ghost view = { λ s. ones s.mask };
-
-    ghost invariant = { λ s. s.mask < 2 ^ 64 };
-
-    ghost inverse = { λ s. record { mask = of_ones s } };
-
-    ghost inverse_ok = { λ s small. ap (λ (m : ℕ). record { mask = m }) (of_ones-ones s.mask small) };
-}
-
 impl IndexSet {
     #[tactic(auto, using(crate::proofs::Bits::ones_of_none))]
     pub fn empty() -> IndexSet
-        ensures { result ≡ [] }
+        ensures value { result ≡ empty_set }
+        ensures members { members result ≡ [] }
     {
         IndexSet { mask: 0 }
     }
 
     #[tactic(auto, using(crate::proofs::Bits::membership))]
     pub fn contains(self, index: u8) -> bool
-        ensures value { result ≡ mem index self }
-        ensures rising { Rising self }
+        ensures value { result ≡ mem index (members self) }
+        ensures bits { result ≡ (nat_lt index 64 && bit self.mask index) }
+        ensures rising { Rising (members self) }
     {
         index < 64 && (self.mask >> index) & 1 == 1
     }
 
     #[tactic(auto, using(crate::proofs::Bits::emptiness))]
     pub fn is_empty(self) -> bool
-        ensures value { IsTrue result ↔ (self ≡ []) }
-        ensures rising { Rising self }
+        ensures value { result ≡ (self.mask == 0) }
+        ensures members { IsTrue result ↔ (members self ≡ []) }
+        ensures rising { Rising (members self) }
     {
         self.mask == 0
     }
 
     #[tactic(auto, using(crate::proofs::Bits::bounds))]
     pub fn is_below(self, bound: u8) -> bool
-        ensures { IsTrue result ↔ All (λ k. k < bound) self }
+        ensures { IsTrue result ↔ All (λ k. k < bound) (members self) }
     {
         bound >= 64 || self.mask >> bound == 0
     }
@@ -62,7 +50,9 @@ impl IndexSet {
     #[tactic(auto, using(crate::proofs::Bits::one_more))]
     pub fn with(self, index: u8) -> IndexSet
         ensures value { result ≡ added self index }
-        ensures has { (k : ℕ) → k < 64 → mem k result ≡ (k == index || mem k self) }
+        ensures bits { result.mask ≡ (if nat_lt index 64 then bit_or self.mask (2 ^ index) else self.mask) }
+        ensures has { (k : ℕ) → k < 64 → mem k (members result) ≡ (k == index || mem k (members self)) }
+        ensures rising { Rising (members result) }
     {
         if index >= 64 {
             return self;
@@ -72,20 +62,19 @@ impl IndexSet {
         }
     }
 
-    // The members, each once, the lowest first. The bits are named for `rising`, which is known of them alone.
+    // The members, each once, the lowest first.
     #[tactic(auto, using(crate::proofs::Bits::ones_rise))]
     pub fn iter(self) -> Members
-        ensures value { result ≡ self }
-        ensures rising { Rising self }
+        ensures value { result ≡ members self }
+        ensures rising { Rising (members self) }
     {
-        let _ = &self.mask;
         Members::new(self)
     }
 
     // The lowest member, and the others.
     #[tactic(auto, using(crate::proofs::Bits::lowest))]
     pub(crate) fn split_first(self) -> Option<(u8, IndexSet)>
-        ensures { MatchOption result (self ≡ []) (λ x. self ≡ x.0 ∷ x.1) }
+        ensures { MatchOption result (members self ≡ []) (λ x. members self ≡ x.0 ∷ members x.1) }
     {
         if self.mask == 0 {
             return None;
@@ -102,7 +91,7 @@ impl IndexSet {
 
 // The set of these numbers, of which those past 63 do not count.
 impl<'a> From<&'a [u8]> for IndexSet {
-    ghost from_gives = { λ numbers r. r ≡ fold added [] numbers.now };
+    ghost from_gives = { λ numbers r. r ≡ fold added empty_set numbers.now };
 
     fn from(numbers: &'a [u8]) -> IndexSet {
         numbers

@@ -1,6 +1,7 @@
 // Going through a set.
 ghost use Rattle.std.specs.Prelude.{◌≡◌, ℕ, List};
 ghost use Rattle.std.specs.Iterator.{YieldsFirst, item_count};
+ghost use Rattle.sets.specs.Sets.{members};
 
 use crate::index_set::IndexSet;
 use std::marker::Model;
@@ -14,12 +15,12 @@ pub struct Members {
 impl Model for Members {
     ghost Value = { List ℕ };
 
-    ghost view = { λ s. s.left };
+    ghost view = { λ s. members s.left };
 }
 
 impl Members {
     pub(crate) fn new(set: IndexSet) -> Members
-        ensures { result ≡ set }
+        ensures { result ≡ members set }
     {
         Members { left: set }
     }

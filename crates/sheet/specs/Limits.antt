@@ -1,11 +1,9 @@
 -- The limits that every sheet keeps.
---   no_need    what stands past the end of a list of needs
---   Limits s   the sheet s keeps them all
---   Linked ns  each of the needs has a link as it may be, or none
-use Rattle.std.specs.Prelude.{◌≤◌, None, List, length, All, AllPairs}
+--   no_need   what stands past the end of a list of needs
+--   Limits s  the sheet s keeps them all
+use Rattle.std.specs.Prelude.{◌≤◌, None, length, All, AllPairs}
 use Rattle.sheet.specs.declared.parts.Need.{Need}
 use Rattle.sheet.specs.Fit.{EffectFits, SameTarget, NeedFits, LinkFits, PairFits}
-use Rattle.sheet.specs.Links.{IsLink}
 use Rattle.sheet.specs.Model.{Sheet}
 
 abbrev pub no_need : Need
@@ -28,6 +26,3 @@ pub record Limits (s : Sheet) : Type 0 where
   pub links_fit : All (λ (n : Need). LinkFits s.steps n.link) s.needs
   -- each pair is of two steps that there are
   pub pairs_fit : All (PairFits s.steps) s.pairs
-
-abbrev pub Linked : List Need → Type 0
-Linked ns = All (λ (n : Need). IsLink n.link) ns

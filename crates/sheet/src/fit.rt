@@ -2,8 +2,7 @@
 ghost use Rattle.std.specs.Prelude.{◌≡◌, ◌<◌, ◌≤◌, ◌↔◌, IsTrue, length, slice_index_or, All, AllPairs, vec_len};
 ghost use Rattle.sheet.specs.Fit.{EffectFits, SameTarget, NeedFits, LinkFits, PairFits};
 ghost use Rattle.sheet.specs.Keeping.{CountsFit, EffectsFit, NeedsFit, PairsFit};
-ghost use Rattle.sheet.specs.Limits.{Limits, Linked};
-ghost use Rattle.sheet.specs.Links.{IsLink};
+ghost use Rattle.sheet.specs.Limits.{Limits};
 ghost use Rattle.sheet.specs.Model.{model_of};
 
 use crate::parts::{Effect, Need, Pair, Parts};
@@ -32,8 +31,7 @@ impl Need {
     }
 
     fn link_fits(self, steps: u8) -> bool
-        ensures fits { IsTrue result ↔ LinkFits steps self.link }
-        ensures link { IsLink self.link }
+        ensures { IsTrue result ↔ LinkFits steps self.link }
     {
         self.link
             .is_none_or(|link| link.contributors().is_below(steps))
@@ -83,8 +81,7 @@ impl Parts {
     }
 
     fn needs_fit(&self) -> bool
-        ensures fits { IsTrue result ↔ NeedsFit self.now }
-        ensures linked { IsTrue result → Linked self.now.needs.items }
+        ensures { IsTrue result ↔ NeedsFit self.now }
     {
         self.needs.iter().all(|need| need.fits(self))
             && self.needs.iter().all(|need| need.link_fits(self.steps))
@@ -99,8 +96,7 @@ impl Parts {
     // Whether these are the parts of a sheet.
     #[tactic(auto, using(crate::proofs::Kept::limit_facts))]
     pub(crate) fn fit(&self) -> bool
-        ensures fits { IsTrue result ↔ Limits (model_of self.now) }
-        ensures linked { IsTrue result → Linked (model_of self.now).needs }
+        ensures { IsTrue result ↔ Limits (model_of self.now) }
     {
         self.counts_fit() && self.effects_fit() && self.needs_fit() && self.pairs_fit()
     }

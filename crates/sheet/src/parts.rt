@@ -1,11 +1,9 @@
 // The parts of a sheet: effects, needs with their links, and pairs.
-ghost use Rattle.std.specs.Prelude.{◌≡◌, ◌≢◌, ℕ, List, []};
-ghost use Rattle.sets.specs.Sets.{Rising};
-ghost use Rattle.sheet.specs.Links.{link_by};
+ghost use Rattle.std.specs.Prelude.{◌≡◌, ◌≢◌, ◌<◌, [], MatchOption};
+ghost use Rattle.sets.specs.Sets.{members, Rising};
 
 use gauge::Condition;
 use sets::index_set::IndexSet;
-use std::marker::Model;
 
 // What a step does to a signal: it sets it to a word. These derive no `==` and no `Debug`, as nothing compares or prints them,
 // and each derive is proved anew.
@@ -16,26 +14,23 @@ pub struct Effect {
     pub word: u16,
 }
 
-// A causal link: the steps that are to give a need, its contributors, at least one.
+// A causal link: the steps that are to give a need, its contributors, at least one. No `impl Model`: a need, which holds a link,
+// is to be copied.
 #[derive(Clone, Copy)]
 pub struct Link {
     contributors: IndexSet,
-}
-
-impl Model for Link {
-    ghost Value = { List ℕ };
-
-    ghost view = { λ l. l.contributors };
-
-    ghost invariant = { λ l. (l.contributors ≢ []) × Rising l.contributors };
-
-    ghost inverse = { λ contributors. record { contributors = contributors } };
+    ghost some: { members contributors ≢ [] },
 }
 
 impl Link {
+    ghost use Rattle.sheet.specs.Links.{link_of};
+
     // The link with these contributors; no step at all makes no link.
+    #[tactic(auto, using(crate::proofs::Made::link_none))]
     pub fn new(contributors: IndexSet) -> Option<Link>
-        ensures value { result ≡ link_by contributors }
+        ensures value { result ≡ link_of contributors }
+        ensures contributors { MatchOption result (contributors.mask ≡ 0) (λ l. l.contributors ≡ contributors) }
+        ensures members { MatchOption result (members contributors ≡ []) (λ l. 0 < l.contributors.mask) }
     {
         if contributors.is_empty() {
             return None;
@@ -43,10 +38,12 @@ impl Link {
         Some(Link { contributors })
     }
 
+    #[tactic(auto, using(crate::proofs::Made::rises, sets::proofs::Bits::ones_of_none))]
     pub fn contributors(self) -> IndexSet
-        ensures value { result ≡ self }
-        ensures some { self ≢ [] }
-        ensures rising { Rising self }
+        ensures value { result ≡ self.contributors }
+        ensures bits { 0 < result.mask }
+        ensures some { members result ≢ [] }
+        ensures rising { Rising (members result) }
     {
         self.contributors
     }

@@ -1,6 +1,7 @@
 // A sheet: the steps of a start, a change-over or a clearing, and what each needs and sets.
 ghost use Rattle.std.specs.Prelude.{◌≡◌, ◌↔◌, IsSome, IfSome};
-ghost use Rattle.sheet.specs.Limits.{Limits, Linked};
+ghost use Rattle.sheet.specs.Limits.{Limits};
+ghost use Rattle.sheet.specs.Links.{Linked};
 ghost use Rattle.sheet.specs.Model.{model_of};
 
 use crate::parts::{Effect, Need, Pair, Parts};
@@ -13,14 +14,14 @@ pub struct Sheet {
 }
 
 impl Model for Sheet {
-    ghost use Rattle.sheet.specs.Limits.{Limits, Linked};
+    ghost use Rattle.sheet.specs.Limits.{Limits};
     ghost use Rattle.sheet.specs.Model as model;
 
     ghost Value = { model.Sheet };
 
     ghost view = { λ s. model.model_of s.parts };
 
-    ghost invariant = { λ s. Limits (model.model_of s.parts) × Linked (model.model_of s.parts).needs };
+    ghost invariant = { λ s. Limits (model.model_of s.parts) };
 }
 
 impl Sheet {
@@ -59,6 +60,7 @@ impl Sheet {
         self.parts.effects.as_slice()
     }
 
+    #[tactic(auto, using(crate::proofs::Made::all_linked))]
     pub fn needs(&self) -> &[Need]
         ensures value { result.now ≡ self.now.needs }
         ensures limits { Limits self.now }

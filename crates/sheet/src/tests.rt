@@ -173,3 +173,44 @@ fn limits(rt: HostRuntime) -> Result<(), Fail> {
     );
     Ok(())
 }
+
+fn step_of(need: Need) -> u8 {
+    need.step
+}
+
+fn is_linked(link: Option<Link>) -> bool {
+    link.is_some()
+}
+
+fn bound_of(bounded: (u8, IndexSet)) -> u8 {
+    bounded.0
+}
+
+// Each passes its argument on by value, and uses it again.
+fn step_and(need: Need) -> (u8, Need) {
+    (step_of(need), need)
+}
+
+fn linked_twice(link: Option<Link>) -> bool {
+    is_linked(link) && is_linked(link)
+}
+
+fn bound_twice(bounded: (u8, IndexSet)) -> (u8, u8) {
+    (bound_of(bounded), bound_of(bounded))
+}
+
+// A need, its link and a set are copied, alone or in what holds them.
+#[test]
+fn copied(rt: HostRuntime) {
+    let set = IndexSet::empty().with(3);
+    let need = Need {
+        step: 2,
+        signal: 0,
+        condition: Condition { a: 1, b: 0 },
+        link: Link::new(set),
+    };
+    let (step, same) = step_and(need);
+    assert_eq!(rt; (step, same.step), (2, 2));
+    assert!(rt; linked_twice(same.link));
+    assert_eq!(rt; bound_twice((4, set)), (4, 4));
+}
