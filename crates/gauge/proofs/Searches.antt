@@ -1,8 +1,6 @@
 -- A search from 0 up finds the lowest word of a set.
-use Rattle.std.proofs.Common.{◌≡◌, ℕ, zero, suc, ◌+◌, ◌<◌, ◌≤◌, true, false, Some, None, Option, find, sym, refl, ◌∙◌, subst, arith}
+use Rattle.std.proofs.Common.{◌≡◌, ℕ, zero, suc, ◌+◌, ◌<◌, ◌≤◌, true, false, Some, None, Option, find, sym, refl, subst, arith}
 use Rattle.std.specs.List.{range_with_len}
-use Rattle.std.specs.Option.{option_map}
-use Rattle.std.proofs.lemmas.Iterator.Adapters.{option_map_id}
 use Rattle.gauge.specs.Meaning.{Words}
 use Rattle.gauge.specs.Lowest.{lowest_word, Lowest, LowestExactly}
 
@@ -34,7 +32,9 @@ pub lowest_exactly : LowestExactly
 lowest_exactly words r =
     (λ e. subst (Lowest words) e (lowest words), λ h. one_lowest words (lowest_word words) r (lowest words) h)
 
--- `find` over every word answers it
-pub found_first : (words : Words) (r : Option ℕ) → option_map (λ word. word) r ≡ find words (range_with_len 0 65536) → r ≡ lowest_word words
-unfolding lowest_word
-found_first words r e = sym (option_map_id r) ∙ e
+-- a search that has passed every word and the last one too finds none
+pub none_found : (words : Words) (last : ℕ) → 65535 ≤ last → ((other : ℕ) → other < last → words other ≡ false) → words last ≡ false → None ≡ lowest_word words
+none_found words last end below here = sym ((lowest_exactly words None).1 all)
+  where
+    all : (other : ℕ) → other < 65536 → words other ≡ false
+    all other h = grind (arith, below other)

@@ -10,5 +10,11 @@ pub fn lowest_word<G: Gauge>(gauge: &G, signal: u16, condition: Condition) -> Op
     ensures value { result ≡ lowest_word (G.meaning gauge.now signal condition.a condition.b) }
     ensures law { LowestExactly }
 {
-    (0..=u16::MAX).find(|&word| gauge.meets(signal, condition, word))
+    // no `find` over this range: it takes up to twice the time for each word
+    for word in 0..=u16::MAX {
+        if gauge.meets(signal, condition, word) {
+            return Some(word);
+        }
+    }
+    None
 }

@@ -1,4 +1,3 @@
 pub mod Comparing
 pub mod Firsts
 pub mod Writes
-pub mod Zeros

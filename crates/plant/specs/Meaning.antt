@@ -8,7 +8,6 @@
 --   with_word p s w    the plant with the word of the signal s set to w, and no other word
 --   written p s w      the plant after the write: with that word if it is accepted, else as it was
 --   zeros n t          n signals at 0, with the top word t
---   plant_of_words l   a signal for each word of the list l, with the top word 65535
 use Rattle.std.specs.Prelude.{◌≡◌, ℕ, ◌<◌, ◌≤◌, if◌then◌else◌, ◌&&◌, List, length, replicate, Ok, Err, Result, nat_le, nat_lt, slice_index, slice_set}
 use Rattle.faults.specs.declared.fault.PlantFault.{PlantFault}
 use Rattle.faults.specs.declared.fault.PlantFault.TheVariants.{NoSignal, AboveTop}
@@ -42,6 +41,3 @@ written p signal word = if nat_lt signal p.count && nat_le word p.top then with_
 
 abbrev pub zeros : ℕ → ℕ → PlantMeaning
 zeros count top = record { count = count; top = top; words = replicate count 0 }
-
-abbrev pub plant_of_words : List ℕ → PlantMeaning
-plant_of_words words = record { count = length words; top = 65535; words = words }

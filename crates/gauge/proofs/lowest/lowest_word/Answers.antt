@@ -1,14 +1,17 @@
-use Rattle.std.proofs.Common.{rules, arith, tests}
-use Rattle.std.proofs.lemmas.Iterator.Search.{find_from_yields_List}
-use Rattle.gauge.proofs.Ranges.{every_word}
-use Rattle.gauge.proofs.Searches.{lowest_exactly, found_first}
+use Rattle.std.proofs.Common.{◌≤◌, Some, sym, arith}
+use Rattle.gauge.proofs.Searches.{lowest_exactly, none_found}
 use Rattle.gauge.proofs.lowest.lowest_word.Goals as goal
 
-pub returns : goal.returns
-returns g c =
+pub returns-then-meets : goal.returns-then-meets
+returns-then-meets g c =
     let words = g.G.Gauge.meaning c.args.gauge.now c.args.signal c.args.condition.a c.args.condition.b in
-    let each = every_word c.new.result (omega arith) (omega arith) c.new.ensures.exhausted in
     record {
-      value = found_first words c.find.result (find_from_yields_List words _ _ _ c.find.ensures.ran each (λ word b f call. search (rules, tests)));
+      value = sym ((lowest_exactly words (Some c.loop-word.word)).1 (omega arith, sym c.if-meets.ensures, c.loop-word.invariant));
       law = lowest_exactly;
     }
+
+pub returns-else-meets : goal.returns-else-meets
+returns-else-meets g c =
+    let words = g.G.Gauge.meaning c.args.gauge.now c.args.signal c.args.condition.a c.args.condition.b in
+    let end : 65535 ≤ c.loop-word.word = omega arith in
+    record { value = none_found words c.loop-word.word end c.loop-word.invariant (sym c.if-meets.ensures); law = lowest_exactly }
