@@ -1,7 +1,7 @@
 -- Links as the code makes them.
 use Rattle.std.proofs.Common.{◌≡◌, ◌≢◌, ℕ, List, [], ◌∷◌, Some, None, Option, sym, refl, ap, ◌∙◌}
 use Rattle.sets.specs.declared.index_set.IndexSet.{IndexSet}
-use Rattle.sets.specs.Sets.{Rising, members}
+use Rattle.sets.specs.Sets.{members}
 use Rattle.sets.proofs.Bits.{ones_rise}
 use Rattle.sheet.specs.declared.parts.Link.{Link}
 use Rattle.sheet.specs.declared.parts.Need.{Need}
@@ -32,9 +32,6 @@ link_some s p = some_when s (members s) refl p
 pub link_none : (s : IndexSet) → members s ≡ [] → None ≡ link_of s
 unfolding link_of
 link_none s none = none_when s (members s) refl none
-
-pub rises : (s : IndexSet) → Rising (members s)
-rises s = ones_rise s.mask
 
 is_link : (o : Option Link) → IsLink o
 is_link None = tt

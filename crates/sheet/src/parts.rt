@@ -38,7 +38,7 @@ impl Link {
         Some(Link { contributors })
     }
 
-    #[tactic(auto, using(crate::proofs::Made::rises, sets::proofs::Bits::ones_of_none))]
+    #[tactic(auto, using(sets::proofs::Bits::ones_rise, sets::proofs::Bits::ones_of_none))]
     pub fn contributors(self) -> IndexSet
         ensures value { result ≡ self.contributors }
         ensures bits { 0 < result.mask }
